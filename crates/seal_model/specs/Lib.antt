@@ -1,0 +1,5 @@
+pub mod Polynomial
+pub mod Bytes
+pub mod Aes
+pub mod Gcm
+pub mod Laws
