@@ -1,0 +1,13 @@
+//! AES-256 (FIPS 197), one block at a time.
+//!
+//! Nothing here takes memory. No claim is made on time, or on what a cache shows of a key.
+#![tactic(auto)]
+
+mod key;
+mod round;
+mod s_box;
+
+pub use key::Aes256;
+
+#[cfg(test)]
+mod tests;
