@@ -1,0 +1,4 @@
+pub mod Images
+pub mod Maps
+pub mod Slots
+pub mod Touch
