@@ -1,0 +1,5 @@
+pub mod Numbers
+pub mod Products
+pub mod Sums
+pub mod Streams
+pub mod Sealed

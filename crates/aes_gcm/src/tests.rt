@@ -1,0 +1,205 @@
+// Sealed texts from outside: of a key and nonce of zeros (the specification of GCM), and of another program. The texts and
+// the additional data have lengths about each edge of a block.
+
+ghost use Rattle.std.specs.Prelude.{◌≤◌, IfOk, vec_len};
+
+use super::*;
+use hex::FromHex;
+use std::process::Abort;
+use std::test::Fail;
+
+struct Case {
+    key: &'static str,
+    nonce: &'static str,
+    aad: &'static str,
+    text: &'static str,
+    sealed: &'static str,
+}
+
+const CASES: [Case; 14] = [
+    Case {
+        key: "0000000000000000000000000000000000000000000000000000000000000000",
+        nonce: "000000000000000000000000",
+        aad: "",
+        text: "",
+        sealed: "530f8afbc74536b9a963b4f1c4cb738b",
+    },
+    Case {
+        key: "0000000000000000000000000000000000000000000000000000000000000000",
+        nonce: "000000000000000000000000",
+        aad: "",
+        text: "00000000000000000000000000000000",
+        sealed: "cea7403d4d606b6e074ec5d3baf39d18d0d1c8a799996bf0265b98b5d48ab919",
+    },
+    Case {
+        key: "61a5234d20afad226e779deb4e5506e8487bd91657c2b871eba9ec2c549397ce",
+        nonce: "3381d37f1c63ca50f01ae22c",
+        aad: "dac0a265cbb3ea81ba126bd27c247cead5",
+        text: "",
+        sealed: "78149841ace82ccc2a7847681733a824",
+    },
+    Case {
+        key: "9f13f3171ebb651bd83a6943e77645b4e4c859da553f304da016ec10ce440335",
+        nonce: "bf3d2b6b016c9acfadc33a29",
+        aad: "",
+        text: "f3",
+        sealed: "89ed2a99d29b06b5189234f7472c853700",
+    },
+    Case {
+        key: "74c641660023f9b7b13a16cea99e17322993a2fda377777f85f4478cf7867d80",
+        nonce: "789b2062c2969cc29530445e",
+        aad: "9f",
+        text: "70c06dee22df94f32af81987155f14",
+        sealed: "749dfcfce061746feb527b2fc7876265044dc3bd33a53a16c5081b8a877b82",
+    },
+    Case {
+        key: "c0d198b4caa945b4d99dcf987ff1cf14ae01518e1d5010e956742f1e1bfed531",
+        nonce: "98eb61422451941dfbb78d6d",
+        aad: "14dc86b8a05b",
+        text: "2342313e8a378fac0dcfe9858bf531cf",
+        sealed: "7118d5c7c433a627b8abdb13fa30d7ee81aa1b8d450394084e141e765e1e79df",
+    },
+    Case {
+        key: "646c4e6ea8d5fb4b9b43f83fd0a5ca9363af591561a747ec4af861c0164e0c25",
+        nonce: "efe2ac6efa61a784ed46fdf1",
+        aad: "158275012e8603c7ecbf1b5c9c9870",
+        text: "c9d6d21544c1a5959e9572c9726d8de3f7",
+        sealed: "ac2addcd32e3247769466325e9694cedd4b470275fbbfed8c08470bca500b69247",
+    },
+    Case {
+        key: "241b3a068db0a79c0a4d90d7eaecd077c7556b9a9d955451957a282bff63d55c",
+        nonce: "3f1e8859a20958af52946af6",
+        aad: "5e473a66c97561bffc153358b23eea39",
+        text: "8e29b7671d84b73f69179827c0a4c4384e4e803ab3c970ab4ba4839b13e3e9",
+        sealed: "5c0511b4e598539728b6bb53374aaf7db7be225d7eb52f218684f537bab90a1afdb79c0736fed6bd9772912222fe8c",
+    },
+    Case {
+        key: "5e68c12cb2b24bb2ec5f1725e4a6619b27cc28902aa523f8ef5193ce806f0a69",
+        nonce: "2dcd33d38c1f0054b2d29c1b",
+        aad: "033d908ea8b96a69b58cd8d680ed794a5e",
+        text: "5d2b6dd4234d6601e0bffc069025731263d819bb964a9ae5eed00743250ad677",
+        sealed: "1b21e6b01bc6050cd284df20a3d9691cbf2c0d355c955c8c45c2f7cc08887d857b374f11a1ba347b87ce3ca817db3571",
+    },
+    Case {
+        key: "4d4bc5afcde5ff9eeba2ed26b28ffcc87c08420521b76d227908ea1de7597b6e",
+        nonce: "3a90411550325906e59e0934",
+        aad: "ae38e6a854040ef6f5eab840576e069653a8e83958d72d535c1c14e07a8bdcff",
+        text: "6f0909dcf937006b7408aa15d7a48de1694eac37393c4c9da035184094cc4db670",
+        sealed: "e9a53b971c00ae25118fffc1f7451e4ece058104b08ed97103dc5ac0229188f2d88807c1ba31c7e94ee189b446b2c1d888",
+    },
+    Case {
+        key: "c88d03b7a3cbe9f03439515c2e2ebea7326d4d4b5a9ddeab289222d983e7854c",
+        nonce: "ea39e7e5d3715f3c955705e8",
+        aad: "b37b2ac672a30b2ca746f0e62a63b047a8335a659192183660ab300c9ab654b5a8826682ad5d7300",
+        text: "15d5b302cb68ed8a227ae557c31f1ab048520430cf507b7cb66d33db53b638bed8597b51c1ce5888e7f6e3e28356175fb541878f57ef8354546a34b3450e948e",
+        sealed: "fd33df44b91155827ff4e6ff1eadff41572eb547dbd5838e19e6bbd029a6767c50e45e1d97d1a9d28c5a4289ba6a42742ee417ee8562299c7758da906a16a90e663a9fba8bc2e16509c5f9a637e09e69",
+    },
+    Case {
+        key: "e537081c72f90523d67030faaea8dfd6ca9c45c39481f22ce30c62ba0d4e3cc9",
+        nonce: "50c7324a1898181e55eec71d",
+        aad: "dd8ebc58b46abd802a5cedff132619bd",
+        text: "35b1d7827832d5ba9b1d79666d5b6d0dd8ed17772fce9c2a6af28c7028ad63eff28d0c852877e2663cc23714e7cdd855d178798fe75198b63e5e10f9746e74a677276b13dd8a28b67be260bbbb2718d0c4b7dc52dff4fa967bb264704f57eec41e5e951f",
+        sealed: "c6040e9521695deb4b48dd5b7862674060bb22aca8ae3d0895a0243f2f949563a69e395ba380e98cbf96537eedc2d93ed1b261549922bf815d1290b667e43c6401c08a93a25f2905de7900797d85fe7d454baceed093a3b09b41bf553e1c2674c6e0bd9474166844056914b3f714e17048709673",
+    },
+    Case {
+        key: "15a3e1034355f9cb1a08448e2cb258f59a8bdffa377bfae6a8437690c8f6279a",
+        nonce: "7798a2eb35f77432e39a7527",
+        aad: "",
+        text: "",
+        sealed: "bf948dde5f2b6eaa259097f2f51ecf41",
+    },
+    Case {
+        key: "40e16d0526bb29352470eb9d7b6c17aeb12d4c19981b947b501a0811264537de",
+        nonce: "5433257f037feb82abcfd01c",
+        aad: "b1551da821e1fac614d777bff7840b5cb87ddfb371e696af8a16f339b1214b6f",
+        text: "7529351046e37802b343bcdbf3348d9b",
+        sealed: "8a7119a6ebc6076fc775426b5a1d938d8ff85fe9dcc924e0725153499f29cf83",
+    },
+];
+
+#[test]
+fn sealed_texts_of_other_programs(rt: HostRuntime) -> Result<(), Fail> {
+    for case in &CASES {
+        let key = <[u8; 32]>::from_hex(case.key)?;
+        let nonce = <[u8; 12]>::from_hex(case.nonce)?;
+        let aad = decoded(&rt, rt.alloc(), case.aad)?;
+        let text = decoded(&rt, rt.alloc(), case.text)?;
+        let sealed = decoded(&rt, rt.alloc(), case.sealed)?;
+
+        let made = seal(rt.alloc(), &key, &nonce, aad.as_slice(), text.as_slice())?;
+        assert_eq!(rt; made.as_slice(), sealed.as_slice(), "under {}", case.key);
+
+        let opened = open(rt.alloc(), &key, &nonce, aad.as_slice(), sealed.as_slice())?;
+        let opened = opened.ok_or("a sealed text does not open")?;
+        assert_eq!(rt; opened.as_slice(), text.as_slice(), "under {}", case.key);
+    }
+    Ok(())
+}
+
+// The bytes of a text in hex, few enough to seal.
+fn decoded(rt: &impl Abort, alloc: Global, text: &str) -> Result<Vec<u8>, Fail>
+    ensures { IfOk result (λ bytes. vec_len bytes ≤ 1000) }
+{
+    let bytes = hex::decode(alloc, text)?;
+    assert!(rt; bytes.len() <= 1000);
+    Ok(bytes)
+}
+
+// What is altered of a sealed text: the bits of the last byte of the nonce, of the additional data and of the tag, and how
+// many bytes are cut off.
+const ALTERED: [(&str, u8, u8, u8, usize); 6] = [
+    ("a bit of the nonce", 1, 0, 0, 0),
+    ("a byte of the additional data", 0, 0x80, 0, 0),
+    ("the last bit of the tag", 0, 0, 1, 0),
+    ("the first bit of the tag's last byte", 0, 0, 0x80, 0),
+    ("the length, by one byte", 0, 0, 0, 1),
+    ("the length, by seventeen bytes", 0, 0, 0, 17),
+];
+
+#[test]
+fn altered_texts_stay_shut(rt: HostRuntime) -> Result<(), Fail> {
+    for case in &CASES {
+        let key = <[u8; 32]>::from_hex(case.key)?;
+        let aad = decoded(&rt, rt.alloc(), case.aad)?;
+        let sealed = decoded(&rt, rt.alloc(), case.sealed)?;
+        for (what, nonce_bit, aad_bit, tag_bit, cut) in ALTERED {
+            if aad_bit != 0 && aad.is_empty() {
+                continue;
+            }
+            let mut nonce = <[u8; 12]>::from_hex(case.nonce)?;
+            nonce[11] ^= nonce_bit;
+            let mut other_aad = aad.clone()?;
+            if let Some(last) = other_aad.last_mut() {
+                *last ^= aad_bit;
+            }
+            let mut other_sealed = sealed.clone()?;
+            other_sealed.truncate(sealed.len().saturating_sub(cut));
+            if let Some(last) = other_sealed.last_mut() {
+                *last ^= tag_bit;
+            }
+            let opened = open(
+                rt.alloc(),
+                &key,
+                &nonce,
+                other_aad.as_slice(),
+                other_sealed.as_slice(),
+            )?;
+            assert!(rt; opened.is_none(), "{} of a text under {}", what, case.key);
+        }
+    }
+    Ok(())
+}
+
+// The specification of GCM, test case 2: the hash of a ciphertext, and of that and the block of the lengths.
+#[test]
+fn hash_of_one_block_and_of_two(rt: HostRuntime) -> Result<(), Fail> {
+    let h = <[u8; 16]>::from_hex("66e94bd4ef8a2c3b884cfa59ca342b2e")?;
+    let blocks = <[u8; 32]>::from_hex(
+        "0388dace60b6a392f328c2b971b2fe7800000000000000000000000000000080",
+    )?;
+    let first = <[u8; 16]>::from_hex("5e2ec746917062882c85b0685353deb7")?;
+    let both = <[u8; 16]>::from_hex("f38cbb1ad69223dcc3457ae5b6b0f885")?;
+    assert_eq!(rt; ghash(h, &blocks[..16]), first);
+    assert_eq!(rt; ghash(h, &blocks), both);
+    Ok(())
+}
