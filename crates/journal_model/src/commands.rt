@@ -1,0 +1,117 @@
+ghost use Rattle.std.proofs.Common.{rules};
+ghost use Rattle.std.specs.Cmp.{partial_order_from_own_ties};
+ghost use Rattle.std.specs.Cmp.Rules.{comparing};
+ghost use Rattle.std.specs.Ordering.{as_partial_cmp};
+ghost use Rattle.std.specs.Prelude.{◌≡◌, IfOk};
+ghost use Rattle.journal_model.specs.Actor.{actor_cmp, actor_total};
+ghost use Rattle.journal_model.specs.Command.{actor_of};
+
+use std::alloc::Global;
+use std::cmp::Ordering;
+use tree_model::NoMemory;
+
+/// Who makes turns: the recovery after a restart, the checkpoint, or a user.
+#[derive(Clone, Copy, Debug, PartialEq, Eq)]
+pub enum Actor {
+    Boot,
+    Cp,
+    User(u32),
+}
+
+/// The order in which the variants stand, then that of the users' numbers.
+impl Ord for Actor {
+    ghost cmp = { actor_cmp };
+
+    ghost total = { actor_total };
+
+    ghost matches_partial_cmp = { Prim.search (comparing, rules) };
+
+    ghost matches_eq = { Prim.search (comparing, rules) };
+
+    fn cmp(&self, other: &Actor) -> Ordering {
+        match (*self, *other) {
+            (Actor::Boot, Actor::Boot) => Ordering::Equal,
+            (Actor::Boot, _) => Ordering::Less,
+            (_, Actor::Boot) => Ordering::Greater,
+            (Actor::Cp, Actor::Cp) => Ordering::Equal,
+            (Actor::Cp, Actor::User(_)) => Ordering::Less,
+            (Actor::User(_), Actor::Cp) => Ordering::Greater,
+            (Actor::User(a), Actor::User(b)) => a.cmp(&b),
+        }
+    }
+}
+
+impl PartialOrd for Actor {
+    ghost partial_cmp = { as_partial_cmp actor_cmp };
+
+    ghost laws = { partial_order_from_own_ties (Prim.search (comparing, rules)) (Prim.search (comparing, rules)) };
+
+    fn partial_cmp(&self, other: &Actor) -> Option<Ordering> {
+        Some(self.cmp(other))
+    }
+}
+
+/// What an actor is asked to do.
+#[derive(Drop)]
+pub enum Command {
+    /// Makes a user's two keys, under the empty secret.
+    Create { user: u32 },
+    /// Brings the machine up after a restart.
+    Recover,
+}
+
+impl Command {
+    /// The actor that the command is for.
+    pub fn actor(&self) -> Actor
+        ensures { result ≡ actor_of self.now }
+    {
+        match self {
+            Command::Create { user } => Actor::User(*user),
+            Command::Recover => Actor::Boot,
+        }
+    }
+
+    /// The same command in memory of its own.
+    pub fn duplicate(&self, _alloc: Global) -> Result<Command, NoMemory>
+        ensures { IfOk result (λ copied. copied ≡ self.now) }
+    {
+        match self {
+            Command::Create { user } => Ok(Command::Create { user: *user }),
+            Command::Recover => Ok(Command::Recover),
+        }
+    }
+}
+
+/// How a command ended.
+#[derive(Clone, Copy, Debug, PartialEq, Eq)]
+pub enum Reply {
+    /// The command did its work.
+    Done,
+    /// A recovery ended, with this number of deletes made.
+    Ended(u64),
+    /// The user to be created was there when the command began.
+    UserExists,
+    /// The machine was ready when the recovery began.
+    Ready,
+    /// The tree device failed.
+    TreeFault,
+}
+
+/// Why a command got no number.
+#[derive(Clone, Copy, Debug, PartialEq, Eq)]
+pub enum EnqueueFault {
+    /// Every number is given out.
+    Full,
+    /// Memory ran out.
+    NoMemory,
+}
+
+impl From<NoMemory> for EnqueueFault {
+    ghost use Rattle.journal_model.specs.declared.commands.EnqueueFault.TheVariants.{NoMemory as WantsMemory};
+
+    ghost from_gives = { λ _ fault. fault ≡ WantsMemory };
+
+    fn from(_want: NoMemory) -> EnqueueFault {
+        EnqueueFault::NoMemory
+    }
+}

@@ -1,0 +1,72 @@
+ghost use Rattle.std.specs.Prelude.{◌≡◌, IfOk};
+
+use crate::commands::{Actor, Command, Reply};
+use std::alloc::Global;
+use tree_model::{Cut, NoMemory};
+
+/// When a user was created: the boot, and the number of commands that the user's actor had begun in it before.
+#[derive(Clone, Copy, Debug, PartialEq, Eq)]
+pub struct Birth {
+    pub boot: u64,
+    pub index: u32,
+}
+
+/// A change of the map of users.
+#[derive(Drop)]
+pub enum Change {
+    /// The user is there from now on, with the current slot under the empty secret.
+    Create { user: u32, birth: Birth },
+}
+
+impl Change {
+    /// The same change in memory of its own.
+    pub fn duplicate(&self, _alloc: Global) -> Result<Change, NoMemory>
+        ensures { IfOk result (λ copied. copied ≡ self.now) }
+    {
+        match self {
+            Change::Create { user, birth } => Ok(Change::Create {
+                user: *user,
+                birth: *birth,
+            }),
+        }
+    }
+}
+
+/// A line of the journal.
+#[derive(Drop)]
+pub enum Entry {
+    /// The actor took the command of this number up.
+    Began {
+        number: u64,
+        actor: Actor,
+        command: Command,
+    },
+    /// The command of this number made a change.
+    Changed {
+        number: u64,
+        change: Change,
+    },
+    /// The tree was synced: every change so far is durable.
+    Synced,
+    /// The machine stopped, and this number of changes survived.
+    Stopped {
+        kept: u64,
+    },
+    /// The machine started again, with this boot number, at this level.
+    Restarted {
+        boot: u64,
+        level: u32,
+    },
+    /// The command of this number ended.
+    Replied {
+        number: u64,
+        reply: Reply,
+    },
+}
+
+/// What was given to the machine from outside the script's actors.
+#[derive(Drop)]
+pub enum Order {
+    /// A stop, with what it kept.
+    Stop(Cut),
+}

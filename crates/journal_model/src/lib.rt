@@ -1,0 +1,15 @@
+//! The journal of the storage-key daemon: commands, replies and changes, the machine whose steps a journal is, and the
+//! map of users that the surviving changes make.
+#![tactic(auto)]
+
+pub mod commands;
+pub mod entries;
+pub mod journal;
+pub mod secrets;
+pub mod user_map;
+
+pub use commands::{Actor, Command, EnqueueFault, Reply};
+pub use entries::{Birth, Change, Entry, Order};
+pub use journal::Journal;
+pub use secrets::Secret;
+pub use user_map::{UserMap, defined_reply, fold};
