@@ -1,0 +1,6 @@
+-- No byte so far is the one that is looked for.
+use Rattle.std.proofs.Common.{◌≡◌, ℕ, ◌<◌, get_or}
+use Rattle.script_text.proofs.reading.split_at_byte.Given as goal
+
+abbrev pub invariant-loop-i : goal.invariant-loop-i
+invariant-loop-i l = (k : ℕ) → k < l.i → get_or l.bytes k 0 ≡ l.byte → ⊥

@@ -1,0 +1,54 @@
+-- The journal as text: a line that counts the entries, and one line for each.
+use Rattle.std.specs.Prelude.{ℕ, List, [], ◌∷◌, ◌++◌, length, codes}
+use Rattle.std.specs.List.{flat_map}
+use Rattle.journal_model.specs.declared.commands.Actor.{Actor}
+use Rattle.journal_model.specs.declared.commands.Actor.TheVariants.{Boot, Cp, User}
+use Rattle.journal_model.specs.declared.commands.Command.{Command}
+use Rattle.journal_model.specs.declared.commands.Command.TheVariants.{Create, Recover}
+use Rattle.journal_model.specs.declared.commands.Reply.{Reply}
+use Rattle.journal_model.specs.declared.commands.Reply.TheVariants.{Done, Ended, UserExists, Ready, TreeFault}
+use Rattle.journal_model.specs.declared.entries.Change.{Change}
+use Rattle.journal_model.specs.declared.entries.Change.TheVariants.{Create as Created}
+use Rattle.journal_model.specs.declared.entries.Entry.{Entry}
+use Rattle.journal_model.specs.declared.entries.Entry.TheVariants.{Began, Changed, Synced, Stopped, Restarted, Replied}
+use Rattle.script_text.specs.Words.{decimal, line_of}
+
+-- an actor is its user's number, `cp` or `boot`
+abbrev pub actor_word : Actor → List ℕ
+actor_word Boot = codes "boot"
+actor_word Cp = codes "cp"
+actor_word (User user) = decimal user
+
+-- a command: its name, and what it is for
+abbrev pub command_words : Command → List (List ℕ)
+command_words (Create user) = codes "create" ∷ decimal user ∷ []
+command_words Recover = codes "recover" ∷ []
+
+-- a change: its name, the user, and when that user was created
+abbrev pub change_words : Change → List (List ℕ)
+change_words (Created user birth) = codes "create" ∷ decimal user ∷ decimal birth.boot ∷ decimal birth.index ∷ []
+
+-- how a command ended, and for a recovery the number of deletes
+abbrev pub reply_words : Reply → List (List ℕ)
+reply_words Done = codes "ok" ∷ []
+reply_words (Ended count) = codes "ok" ∷ decimal count ∷ []
+reply_words UserExists = codes "user-exists" ∷ []
+reply_words Ready = codes "ready" ∷ []
+reply_words TreeFault = codes "tree-fault" ∷ []
+
+-- an entry: what happened, and its numbers
+abbrev pub entry_words : Entry → List (List ℕ)
+entry_words (Began number actor command) = codes "began" ∷ decimal number ∷ actor_word actor ∷ command_words command
+entry_words (Changed number change) = codes "changed" ∷ decimal number ∷ change_words change
+entry_words Synced = codes "synced" ∷ []
+entry_words (Stopped kept) = codes "stopped" ∷ decimal kept ∷ []
+entry_words (Restarted boot level) = codes "restarted" ∷ decimal boot ∷ decimal level ∷ []
+entry_words (Replied number reply) = codes "replied" ∷ decimal number ∷ reply_words reply
+
+-- the line of an entry
+abbrev pub entry_line : Entry → List ℕ
+entry_line entry = line_of (entry_words entry)
+
+-- the line that counts the entries, then theirs
+abbrev pub journal_text : List Entry → List ℕ
+journal_text entries = line_of (codes "journal" ∷ decimal (length entries) ∷ []) ++ flat_map entry_line entries

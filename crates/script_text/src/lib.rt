@@ -1,0 +1,20 @@
+//! The texts of a run: the script that it reads, the journal and the tree that it prints, and the status that it ends
+//! with.
+#![tactic(auto)]
+
+mod appending;
+pub mod journal_lines;
+pub mod numbers;
+mod reading;
+pub mod script;
+pub mod status;
+pub mod tree_lines;
+
+pub use journal_lines::print_journal;
+pub use numbers::number_of;
+pub use script::{Line, Script, one_reading, read_script};
+pub use status::Status;
+pub use tree_lines::print_tree;
+
+#[cfg(test)]
+mod tests;

@@ -1,0 +1,198 @@
+use crate::{Line, Script, Status, number_of, print_journal, print_tree, read_script};
+use journal_model::{Actor, Birth, Change, Command, Entry, Reply};
+use std::alloc::Global;
+use std::test::Fail;
+use tree_model::{Bytes, Dir, FileName, NoMemory, Place, Slot};
+
+const CREATED_JOURNAL: &[u8] =
+    b"journal 6\nbegan 0 10 create 10\nsynced\nsynced\nchanged 0 create 10 0 0\nsynced\nreplied 0 ok\n";
+
+const CREATED_TREE: &[u8] =
+    b"tree 2\ndir de/10\nfile version 1 30\nfile encrypted_key 64 000000000a0000000000000000000000000000000000000000000000000000000000000000000000000000000000000000000000000000000000000000000000\ndir ce/10/current\nfile version 1 30\nfile encrypted_key 64 010000000a0000000000000000000000000000000000000000000000000000000000000000000000000000000000000000000000000000000000000000000000\n";
+
+const EVERY_ENTRY: &[u8] =
+    b"journal 12\nbegan 7 3 create 3\nbegan 8 cp create 4\nbegan 9 boot recover\nchanged 7 create 3 2 5\nsynced\nstopped 1\nrestarted 3 2\nreplied 7 ok\nreplied 8 ok 12\nreplied 9 user-exists\nreplied 10 ready\nreplied 18446744073709551615 tree-fault\n";
+
+const EVERY_NAME: &[u8] =
+    b"later 4 checkpoint 3\ndir de/0\nfile version 1 30\nfile encrypted_key 2 00ff\nfile keymaster_key_blob 1 0a\nfile keymaster_key_blob_upgraded 1 0b\nfile keymaster_key_blob_new 1 0c\nfile secdiscardable 1 0d\nfile stretching 0 -\nfile salt 1 0f\ndir ce/7/current\ndir ce/7/cx0000000012\ndir tmp/4294967295\n";
+
+#[test]
+fn prints_a_created_user(rt: HostRuntime) -> Result<(), Fail> {
+    let mut entries = Vec::new(rt.alloc());
+    entries.push(Entry::Began {
+        number: 0,
+        actor: Actor::User(10),
+        command: Command::Create { user: 10 },
+    })?;
+    entries.push(Entry::Synced)?;
+    entries.push(Entry::Synced)?;
+    entries.push(Entry::Changed {
+        number: 0,
+        change: Change::Create {
+            user: 10,
+            birth: Birth { boot: 0, index: 0 },
+        },
+    })?;
+    entries.push(Entry::Synced)?;
+    entries.push(Entry::Replied {
+        number: 0,
+        reply: Reply::Done,
+    })?;
+    let journal = print_journal(rt.alloc(), entries.as_slice())?;
+    assert_eq!(rt; journal.as_slice(), CREATED_JOURNAL);
+
+    let mut dirs = Vec::new(rt.alloc());
+    dirs.push((Place::De(10), created_dir(rt.alloc(), 0)?))?;
+    dirs.push((Place::Ce(10, Slot::Current), created_dir(rt.alloc(), 1)?))?;
+    let tree = print_tree(rt.alloc(), b"tree", dirs.as_slice(), None)?;
+    assert_eq!(rt; tree.as_slice(), CREATED_TREE);
+    Ok(())
+}
+
+/// A directory of user 10 as a create leaves it, with the key of a class.
+fn created_dir(alloc: Global, class: u8) -> Result<Dir, NoMemory> {
+    let mut key = [0u8; 64];
+    key[0] = class;
+    key[4] = 10;
+    let mut dir = Dir::new();
+    dir.put(FileName::Version, Bytes::copy(alloc, b"0")?)?;
+    dir.put(FileName::EncryptedKey, Bytes::copy(alloc, &key)?)?;
+    Ok(dir)
+}
+
+#[test]
+fn prints_every_entry(rt: HostRuntime) -> Result<(), Fail> {
+    let mut entries = Vec::new(rt.alloc());
+    for (number, actor, command) in [
+        (7, Actor::User(3), Command::Create { user: 3 }),
+        (8, Actor::Cp, Command::Create { user: 4 }),
+        (9, Actor::Boot, Command::Recover),
+    ] {
+        entries.push(Entry::Began {
+            number,
+            actor,
+            command,
+        })?;
+    }
+    entries.push(Entry::Changed {
+        number: 7,
+        change: Change::Create {
+            user: 3,
+            birth: Birth { boot: 2, index: 5 },
+        },
+    })?;
+    entries.push(Entry::Synced)?;
+    entries.push(Entry::Stopped { kept: 1 })?;
+    entries.push(Entry::Restarted { boot: 3, level: 2 })?;
+    for (number, reply) in [
+        (7, Reply::Done),
+        (8, Reply::Ended(12)),
+        (9, Reply::UserExists),
+        (10, Reply::Ready),
+        (u64::MAX, Reply::TreeFault),
+    ] {
+        entries.push(Entry::Replied { number, reply })?;
+    }
+    let journal = print_journal(rt.alloc(), entries.as_slice())?;
+    assert_eq!(rt; journal.as_slice(), EVERY_ENTRY);
+    Ok(())
+}
+
+#[test]
+fn prints_every_name(rt: HostRuntime) -> Result<(), Fail> {
+    let files: [(FileName, &[u8]); 8] = [
+        (FileName::Salt, &[15]),
+        (FileName::Stretching, &[]),
+        (FileName::Discard, &[13]),
+        (FileName::BlobNew, &[12]),
+        (FileName::BlobUpgraded, &[11]),
+        (FileName::Blob, &[10]),
+        (FileName::EncryptedKey, &[0, 255]),
+        (FileName::Version, &[48]),
+    ];
+    let mut dir = Dir::new();
+    for (name, bytes) in files {
+        dir.put(name, Bytes::copy(rt.alloc(), bytes)?)?;
+    }
+    let mut dirs = Vec::new(rt.alloc());
+    dirs.push((Place::De(0), dir))?;
+    for place in [
+        Place::Ce(7, Slot::Current),
+        Place::Ce(7, Slot::Cx(12)),
+        Place::Temp(u32::MAX),
+    ] {
+        dirs.push((place, Dir::new()))?;
+    }
+    let tree = print_tree(rt.alloc(), b"later", dirs.as_slice(), Some(3))?;
+    assert_eq!(rt; tree.as_slice(), EVERY_NAME);
+    Ok(())
+}
+
+#[test]
+fn reads_scripts(rt: HostRuntime) -> Result<(), Fail> {
+    let texts: [(&[u8], Option<usize>); 16] = [
+        (b"", Some(0)),
+        (b"all\n", Some(1)),
+        (b"create 10\nall\n", Some(2)),
+        (b"create 0\ncreate 4294967295\nall\n", Some(3)),
+        (b"create 010\n", None),
+        (b"create +1\n", None),
+        (b"create  10\n", None),
+        (b"create 4294967296\n", None),
+        (b"CREATE 10\n", None),
+        (b"make 10\n", None),
+        (b"create 10", None),
+        (b"\n", None),
+        (b"create\n", None),
+        (b"create 10 11\n", None),
+        (b"all x\n", None),
+        (b" all\n", None),
+    ];
+    for (text, want) in texts {
+        let script = read_script(rt.alloc(), text)?;
+        let count = script.as_ref().map(|script| script.lines().len());
+        assert_eq!(rt; count, want, "at {text:?}");
+    }
+    let script = read_script(rt.alloc(), b"create 10\nall\n")?;
+    let lines = script.as_ref().map(Script::lines).unwrap_or(&[]);
+    assert!(rt; matches!(lines.first(), Some(Line::Do(Command::Create { user: 10 }))));
+    assert!(rt; matches!(lines.last(), Some(Line::All)));
+    Ok(())
+}
+
+#[test]
+fn reads_numbers(rt: HostRuntime) {
+    let words: [(&[u8], Option<u32>); 8] = [
+        (b"0", Some(0)),
+        (b"10", Some(10)),
+        (b"4294967295", Some(u32::MAX)),
+        (b"4294967296", None),
+        (b"", None),
+        (b"00", None),
+        (b"+1", None),
+        (b"1a", None),
+    ];
+    for (word, want) in words {
+        assert_eq!(rt; number_of(word), want, "at {word:?}");
+    }
+}
+
+#[test]
+fn tells_how_a_run_ended(rt: HostRuntime) {
+    let ends: [(Status, u8, &[u8]); 6] = [
+        (Status::Done, 0, b""),
+        (
+            Status::Usage,
+            2,
+            b"usage: vold run | vold rehearse <number> | vold threads\n",
+        ),
+        (Status::BadScript, 3, b"badscript\n"),
+        (Status::ReadFault, 5, b"readfault\n"),
+        (Status::WriteFault, 6, b""),
+        (Status::NoMemory, 7, b""),
+    ];
+    for (status, number, message) in ends {
+        assert_eq!(rt; status.number(), number, "at {status:?}");
+        assert_eq!(rt; status.message(), message, "at {status:?}");
+    }
+}

@@ -1,0 +1,134 @@
+ghost use Rattle.std.specs.Prelude.{◌≡◌, [], ◌∷◌, ◌++◌, OnOk, IfOk};
+ghost use Rattle.std.specs.List.{flat_map};
+ghost use Rattle.std.specs.FinMap as map;
+ghost use Rattle.script_text.specs.Words.{spaced, ten_digits};
+ghost use Rattle.script_text.specs.Tree.{slot_word, place_word, file_word, file_line, dir_text, tries_words, tree_section};
+
+use crate::appending::{
+    push_bytes, push_decimal, push_line_feed, push_number, push_text, push_word,
+};
+use std::alloc::Global;
+use tree_model::{Bytes, Dir, FileName, NoMemory, Place, Slot};
+
+/// The zeros of a slot's ten digits.
+const ZEROS: [u8; 10] = [b'0'; 10];
+
+/// Directories as text: a line with the first word, their number and where it is given that of the tries, then each
+/// directory with its files.
+pub fn print_tree(
+    alloc: Global,
+    first: &[u8],
+    dirs: &[(Place, Dir)],
+    tries: Option<u32>,
+) -> Result<Bytes, NoMemory>
+    ensures { IfOk result (λ text. text ≡ tree_section first.now dirs.now tries) }
+{
+    let mut out = Vec::new(alloc);
+    push_text(&mut out, first)?;
+    push_number(alloc, &mut out, dirs.len() as u64)?;
+    push_tries(alloc, &mut out, tries)?;
+    push_line_feed(&mut out)?;
+    for dir in dirs {
+        push_dir(alloc, &mut out, dir.0, &dir.1)?;
+    }
+    Ok(Bytes::from_vec(out))
+}
+
+fn push_tries(alloc: Global, out: &mut Vec<u8>, tries: Option<u32>) -> Result<(), NoMemory>
+    ensures { OnOk result (out.new.items ≡ out.old.items ++ spaced (tries_words tries)) }
+{
+    match tries {
+        None => Ok(()),
+        Some(tries) => {
+            push_word(out, b"checkpoint")?;
+            push_number(alloc, out, u64::from(tries))
+        }
+    }
+}
+
+fn push_dir(alloc: Global, out: &mut Vec<u8>, place: Place, dir: &Dir) -> Result<(), NoMemory>
+    ensures { OnOk result (out.new.items ≡ out.old.items ++ dir_text (place, dir.now)) }
+{
+    push_text(out, b"dir ")?;
+    push_place(alloc, out, place)?;
+    push_line_feed(out)?;
+    push_files(alloc, out, dir)
+}
+
+fn push_files(alloc: Global, out: &mut Vec<u8>, dir: &Dir) -> Result<(), NoMemory>
+    ensures { OnOk result (out.new.items ≡ out.old.items ++ flat_map file_line (map.entries dir.now)) }
+{
+    for name in dir.names() {
+        if let Some(bytes) = dir.get(*name) {
+            push_file(alloc, out, *name, bytes.as_slice())?;
+        }
+    }
+    Ok(())
+}
+
+fn push_file(alloc: Global, out: &mut Vec<u8>, name: FileName, bytes: &[u8]) -> Result<(), NoMemory>
+    ensures { OnOk result (out.new.items ≡ out.old.items ++ file_line (name, bytes.now)) }
+{
+    push_text(out, b"file")?;
+    push_word(out, text_of_name(name))?;
+    push_number(alloc, out, bytes.len() as u64)?;
+    push_bytes(alloc, out, bytes)?;
+    push_line_feed(out)
+}
+
+fn text_of_name(name: FileName) -> &'static [u8]
+    ensures { result.now ≡ file_word name }
+{
+    match name {
+        FileName::Version => b"version",
+        FileName::EncryptedKey => b"encrypted_key",
+        FileName::Blob => b"keymaster_key_blob",
+        FileName::BlobUpgraded => b"keymaster_key_blob_upgraded",
+        FileName::BlobNew => b"keymaster_key_blob_new",
+        FileName::Discard => b"secdiscardable",
+        FileName::Stretching => b"stretching",
+        FileName::Salt => b"salt",
+    }
+}
+
+fn push_place(alloc: Global, out: &mut Vec<u8>, place: Place) -> Result<(), NoMemory>
+    ensures { OnOk result (out.new.items ≡ out.old.items ++ place_word place) }
+{
+    match place {
+        Place::De(user) => {
+            push_text(out, b"de/")?;
+            push_decimal(alloc, out, u64::from(user))
+        }
+        Place::Ce(user, slot) => {
+            push_text(out, b"ce/")?;
+            push_decimal(alloc, out, u64::from(user))?;
+            push_text(out, b"/")?;
+            push_slot(alloc, out, slot)
+        }
+        Place::Temp(user) => {
+            push_text(out, b"tmp/")?;
+            push_decimal(alloc, out, u64::from(user))
+        }
+    }
+}
+
+fn push_slot(alloc: Global, out: &mut Vec<u8>, slot: Slot) -> Result<(), NoMemory>
+    ensures { OnOk result (out.new.items ≡ out.old.items ++ slot_word slot) }
+{
+    match slot {
+        Slot::Current => push_text(out, b"current"),
+        Slot::Cx(number) => {
+            push_text(out, b"cx")?;
+            push_ten_digits(alloc, out, number)
+        }
+    }
+}
+
+fn push_ten_digits(alloc: Global, out: &mut Vec<u8>, number: u32) -> Result<(), NoMemory>
+    ensures { OnOk result (out.new.items ≡ out.old.items ++ ten_digits number) }
+{
+    let text = number.to_string(alloc)?;
+    let digits = text.as_bytes();
+    push_text(out, &ZEROS[digits.len()..])?;
+    push_text(out, digits)
+}
