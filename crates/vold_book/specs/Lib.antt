@@ -1,0 +1,12 @@
+pub mod Begin
+pub mod Book
+pub mod Busy
+pub mod Calls
+pub mod Create
+pub mod Numbers
+pub mod Places
+pub mod TaskStands
+pub mod Stands
+pub mod Steps
+pub mod Turns
+pub mod Waiting

@@ -1,0 +1,45 @@
+use journal_model::{Birth, Reply};
+use tree_model::Class;
+
+/// Where a create stands: what was done last.
+#[derive(Clone, Copy, Debug, PartialEq, Eq)]
+pub enum Stage {
+    /// What an earlier create left at the user's places is being removed.
+    Clearing,
+    /// The temporary directory was made for this key.
+    Made(Class),
+    /// It holds its version.
+    Versioned(Class),
+    /// It holds its key.
+    Keyed(Class),
+    /// It was synced.
+    Settled(Class),
+    /// The credential key's directory is at its place.
+    Renamed,
+    /// The device key's directory is at its place: the user is there.
+    Created,
+}
+
+/// A create on its way.
+#[derive(Clone, Copy, Debug, PartialEq, Eq)]
+pub struct Create {
+    pub user: u32,
+    pub birth: Birth,
+    pub stage: Stage,
+}
+
+/// What an actor's next turn does.
+#[derive(Clone, Copy, Debug, PartialEq, Eq)]
+pub enum Task {
+    /// A call of the device, for a create.
+    Create(Create),
+    /// This reply.
+    Reply(Reply),
+}
+
+/// A command that began: its number, and what its actor's next turn does.
+#[derive(Clone, Copy, Debug, PartialEq, Eq)]
+pub struct Running {
+    pub number: u64,
+    pub task: Task,
+}
