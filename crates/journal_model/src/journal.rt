@@ -1,4 +1,4 @@
-ghost use Rattle.std.specs.Prelude.{◌≡◌, ◌+◌, ◌<◌, ◌≤◌, [], ◌∷◌, ◌++◌, OnOk, OnErr};
+ghost use Rattle.std.specs.Prelude.{◌≡◌, ◌+◌, ◌^◌, ◌<◌, ◌≤◌, [], ◌∷◌, ◌++◌, length, OnOk, OnErr};
 
 use crate::entries::Entry;
 use std::alloc::Global;
@@ -35,6 +35,7 @@ impl Journal {
     pub fn reserve(&mut self) -> Result<(), NoMemory>
         ensures entries { self.new.entries ≡ self.old.entries }
         ensures room { OnOk result (0 < self.new.room) }
+        ensures few { OnOk result (length self.new.entries < 2 ^ 64) }
         ensures refused { OnErr result (self.new ≡ self.old) }
     {
         self.entries.reserve(1)?;

@@ -16,8 +16,8 @@ class_byte De = 0
 class_byte Ce = 1
 
 -- a key of 64 bytes: the class, the user, the boot and the index of the birth, each the high byte first, and zeros
-abbrev pub rehearsal_key : Class → ℕ → Birth → List ℕ
-rehearsal_key class user birth = class_byte class ∷ [] ++ to_be_bytes w32 user ++ to_be_bytes w64 birth.boot ++ to_be_bytes w32 birth.index ++ replicate 47 0
+abbrev pub rehearsal_key : List ℕ → Class → ℕ → Birth → List ℕ
+rehearsal_key seed class user birth = class_byte class ∷ [] ++ to_be_bytes w32 user ++ to_be_bytes w64 birth.boot ++ to_be_bytes w32 birth.index ++ replicate 47 0
 
 -- the byte of the version `0`
 abbrev pub rehearsal_version : List ℕ
@@ -34,5 +34,5 @@ abbrev pub rehearsal_opens : Files → List ℕ → Option (List ℕ)
 rehearsal_opens files [] = if_version (map.get files Version) (map.get files EncryptedKey)
 rehearsal_opens files (byte ∷ bytes) = None
 
-abbrev pub rehearsal : Meaning
-rehearsal = record { opens = rehearsal_opens; de_key = rehearsal_key De; ce_key = rehearsal_key Ce }
+abbrev pub rehearsal : List ℕ → Meaning
+rehearsal seed = record { opens = rehearsal_opens; de_key = rehearsal_key seed De; ce_key = rehearsal_key seed Ce }

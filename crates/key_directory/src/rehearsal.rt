@@ -1,4 +1,4 @@
-ghost use Rattle.std.specs.Prelude.{◌≡◌, IfOk};
+ghost use Rattle.std.specs.Prelude.{◌≡◌, ◌≤◌, IfOk, length};
 ghost use Rattle.key_directory.specs.Rehearsal.{rehearsal_key, rehearsal_version};
 
 use journal_model::Birth;
@@ -12,9 +12,17 @@ pub const VERSION: [u8; 1] = *b"0";
 const PADDING: [u8; 47] = [0; 47];
 
 /// The key of 64 bytes that a rehearsal gives a user: it tells whose it is, and is no secret.
-pub fn key(alloc: Global, class: Class, user: u32, birth: Birth) -> Result<Bytes, NoMemory>
-    ensures { IfOk result (λ made. made ≡ rehearsal_key class user birth) }
+pub fn key(
+    alloc: Global,
+    seed: &[u8],
+    class: Class,
+    user: u32,
+    birth: Birth,
+) -> Result<Bytes, NoMemory>
+    requires { length seed.now ≤ 64 }
+    ensures { IfOk result (λ made. made ≡ rehearsal_key seed.now class user birth) }
 {
+    let _seed = seed;
     let class_byte: u8 = match class {
         Class::De => 0,
         Class::Ce => 1,

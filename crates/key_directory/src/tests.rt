@@ -15,7 +15,7 @@ const CREDENTIAL_KEY: [u8; 64] =
 fn writes_the_keys_of_a_rehearsal(rt: HostRuntime) -> Result<(), Fail> {
     let birth = Birth { boot: 0, index: 0 };
     for (class, bytes) in [(Class::De, DEVICE_KEY), (Class::Ce, CREDENTIAL_KEY)] {
-        let made = key(rt.alloc(), class, 10, birth)?;
+        let made = key(rt.alloc(), b"", class, 10, birth)?;
         assert_eq!(rt; made.as_slice(), bytes.as_slice());
     }
     assert_eq!(rt; VERSION.as_slice(), [0x30].as_slice());

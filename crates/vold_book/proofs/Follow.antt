@@ -10,9 +10,8 @@ use Rattle.tree_model.specs.Dir.{Files}
 use Rattle.tree_model.specs.Order.{place_cmp, place_total, place_exact}
 use Rattle.tree_model.specs.Tree.{Tree, if_there, after_op}
 use Rattle.tree_model.proofs.Maps.{decide_key, get-insert_same, get-insert_other}
-use Rattle.vold_book.specs.Book.{KnowsPlaces}
 use Rattle.vold_book.specs.Calls.{OpFits}
-use Rattle.vold_book.specs.Places.{PlaceMap, places_after_op}
+use Rattle.vold_book.specs.Places.{PlaceMap, KnowsPlaces, places_after_op}
 
 alike_some : {A B : Type 0} (t : Bool) (a : A) (b : B) (x : Option A) (y : Option B) → is_some x ≡ is_some y → is_some (cond t (Some a) x) ≡ is_some (cond t (Some b) y)
 alike_some true a b x y same = refl

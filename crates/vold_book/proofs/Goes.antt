@@ -1,5 +1,5 @@
 -- Each turn that goes leaves fewer turns, for an actor that has something to do.
-use Rattle.std.proofs.Common.{◌≡◌, zero, suc, ℕ, ◌+◌, ◌-◌, ◌<◌, ◌≤◌, Bool, true, false, cond, List, [], ◌∷◌, length, refl, sym, ap, ◌∙◌, subst, arith}
+use Rattle.std.proofs.Common.{◌≡◌, zero, suc, ℕ, ◌+◌, ◌-◌, ◌<◌, ◌≤◌, Bool, true, false, cond, List, refl, sym, ap, ◌∙◌, subst, arith}
 use Rattle.std.specs.Prelude.{Option, Some, None, IsSome, IsNone, is_some, unwrap_or, Ok}
 use Rattle.std.specs.FinMap as map
 use Rattle.std.specs.Ordering.{eq_by_cmp}
@@ -17,30 +17,40 @@ use Rattle.tree_model.specs.Tree.{Tree, if_there, after_op}
 use Rattle.tree_model.specs.Disk.{Disk, view, with_op}
 use Rattle.tree_model.specs.Counted.{Counts}
 use Rattle.tree_model.proofs.Images.{applied-append}
+use Rattle.tree_model.specs.Touch.{SameFor}
 use Rattle.journal_model.specs.declared.commands.Actor.{Actor}
+use Rattle.journal_model.specs.declared.commands.Actor.TheVariants.{Boot, User}
 use Rattle.journal_model.specs.declared.commands.Command.{Command}
 use Rattle.journal_model.specs.declared.commands.Command.TheVariants.{Create as CreateCommand, Recover}
 use Rattle.journal_model.specs.declared.commands.Reply.{Reply}
 use Rattle.journal_model.specs.declared.commands.Reply.TheVariants.{UserExists}
 use Rattle.journal_model.specs.declared.entries.Birth.{Birth}
 use Rattle.journal_model.specs.Actor.{actor_total, actor_exact}
+use Rattle.vold_book.specs.declared.power.Phase.{Phase}
+use Rattle.vold_book.specs.declared.power.Phase.TheVariants.{Up, Down, Halted}
 use Rattle.vold_book.specs.declared.calls.Call.{Call}
 use Rattle.vold_book.specs.declared.calls.Call.TheVariants.{Change, Sync}
 use Rattle.vold_book.specs.declared.tasks.Stage.{Stage}
 use Rattle.vold_book.specs.declared.tasks.Stage.TheVariants.{Clearing, Made, Versioned, Keyed, Settled, Renamed, Created}
+use Rattle.vold_book.specs.declared.power.Power.{Power}
 use Rattle.vold_book.specs.declared.tasks.Create.{Create}
+use Rattle.vold_book.specs.declared.tasks.Recovery.{Recovery}
+use Rattle.vold_book.specs.declared.tasks.Recovery.TheVariants.{List as Listing, Remove, Sync as SyncRecovery}
 use Rattle.vold_book.specs.declared.tasks.Running.{Running}
-use Rattle.vold_book.specs.declared.tasks.Task.TheVariants.{Create as Creating, Reply as Replying}
+use Rattle.vold_book.specs.declared.tasks.Task.TheVariants.{Create as Creating, Recover as Recovering, Reply as Replying}
 use Rattle.vold_book.specs.Begin.{first_task}
-use Rattle.vold_book.specs.Book.{BookState, IsWhole, turns_of_task, turns_of, turns_at, total_by, turns_left}
+use Rattle.vold_book.specs.Book.{BookState, IsWhole, turns_of_task, turns_of, turns_at, turns_to, turns_left}
 use Rattle.vold_book.specs.Calls.{OpFits, Fits, IsMade, IsFailed}
 use Rattle.vold_book.specs.Create.{call_at, call_of, next_at}
-use Rattle.vold_book.specs.Numbers.{Waiting, with_queue}
+use Rattle.vold_book.specs.Numbers.{total_by}
 use Rattle.vold_book.specs.Places.{PlaceMap}
 use Rattle.vold_book.specs.TaskStands.{RunningMap}
-use Rattle.vold_book.specs.Turns.{Begins, Calls, after_reply, task_after, TurnsFrom, Goes, IsIdle}
+use Rattle.vold_book.specs.Powered.{TakesTurn, RecoveryStands}
+use Rattle.vold_book.specs.Recover.{IsLeft, IsFirstLeft, IsRecovered, RecoveryFits, recovery_task}
+use Rattle.vold_book.specs.Turns.{Begins, Calls, Recovers, after_reply, task_after, task_recovered, power_recovered, TurnsFrom, Goes, IsIdle}
+use Rattle.vold_book.proofs.Numbers.{sum-with_queue}
 use Rattle.vold_book.proofs.Sums.{worth, sum-insert, sum-remove}
-use Rattle.vold_book.proofs.Whole.{call-fits}
+use Rattle.vold_book.proofs.Whole.{call-isolates, recovering-boot, call-fits, recovery-fits-book, recovery-stands, runs-takes}
 
 len-new : (tree : Tree) (place : Place) (files : Files) → IsNone (map.get tree place) → map.len (map.insert tree place files) ≡ map.len tree + 1
 len-new tree place files none = map.len-insert place_total tree place files ∙ ap (λ t. cond t (map.len tree) (map.len tree + 1)) none
@@ -115,20 +125,20 @@ len-with_op : (disk : Disk) (op : Op) → OpFits (view disk) op → map.len (vie
 len-with_op disk op fits = ap (λ t. map.len t + takes op) (applied-append disk.stable disk.pending op) ∙ len-op (view disk) op fits
 
 -- a call that was made leaves fewer turns of its create, with the directories that it added or took
-stage-falls : (stage : Stage) (user : ℕ) (birth : Birth) (way : Option Place) (disk disk' : Disk) → Fits (view disk) (call_at stage user birth way) → IsMade disk disk' (call_at stage user birth way) (Ok true)
+stage-falls : (seed : List ℕ) (stage : Stage) (user : ℕ) (birth : Birth) (way : Option Place) (disk disk' : Disk) → Fits (view disk) (call_at seed stage user birth way) → IsMade disk disk' (call_at seed stage user birth way) (Ok true)
     → map.len (view disk') + turns_of_task (next_at stage user birth way) < map.len (view disk) + turns_at stage
-stage-falls Clearing user birth None disk disk' fits made = let l = len-with_op disk (MakeDir (Temp user)) fits in let e = ap (λ d. map.len (view d)) made in omega (arith, l, e)
-stage-falls Clearing user birth (Some place) disk disk' fits made = let l = len-with_op disk (RemoveDir place) fits in let e = ap (λ d. map.len (view d)) made in omega (arith, l, e)
-stage-falls (Made ForCe) user birth way disk disk' fits made = let l = len-with_op disk (Write (Temp user) Version rehearsal_version) fits in let e = ap (λ d. map.len (view d)) made in omega (arith, l, e)
-stage-falls (Made ForDe) user birth way disk disk' fits made = let l = len-with_op disk (Write (Temp user) Version rehearsal_version) fits in let e = ap (λ d. map.len (view d)) made in omega (arith, l, e)
-stage-falls (Versioned ForCe) user birth way disk disk' fits made = let l = len-with_op disk (Write (Temp user) EncryptedKey (rehearsal_key ForCe user birth)) fits in let e = ap (λ d. map.len (view d)) made in omega (arith, l, e)
-stage-falls (Versioned ForDe) user birth way disk disk' fits made = let l = len-with_op disk (Write (Temp user) EncryptedKey (rehearsal_key ForDe user birth)) fits in let e = ap (λ d. map.len (view d)) made in omega (arith, l, e)
-stage-falls (Keyed ForCe) user birth way disk disk' fits made = let e = ap (λ d. map.len (view d)) made in omega (arith, e)
-stage-falls (Keyed ForDe) user birth way disk disk' fits made = let e = ap (λ d. map.len (view d)) made in omega (arith, e)
-stage-falls (Settled ForCe) user birth way disk disk' fits made = let l = len-with_op disk (RenameDir (Temp user) (Ce user Current)) fits in let e = ap (λ d. map.len (view d)) made in omega (arith, l, e)
-stage-falls (Settled ForDe) user birth way disk disk' fits made = let l = len-with_op disk (RenameDir (Temp user) (De user)) fits in let e = ap (λ d. map.len (view d)) made in omega (arith, l, e)
-stage-falls Renamed user birth way disk disk' fits made = let l = len-with_op disk (MakeDir (Temp user)) fits in let e = ap (λ d. map.len (view d)) made in omega (arith, l, e)
-stage-falls Created user birth way disk disk' fits made = let e = ap (λ d. map.len (view d)) made in omega (arith, e)
+stage-falls seed Clearing user birth None disk disk' fits made = let l = len-with_op disk (MakeDir (Temp user)) fits in let e = ap (λ d. map.len (view d)) made in omega (arith, l, e)
+stage-falls seed Clearing user birth (Some place) disk disk' fits made = let l = len-with_op disk (RemoveDir place) fits in let e = ap (λ d. map.len (view d)) made in omega (arith, l, e)
+stage-falls seed (Made ForCe) user birth way disk disk' fits made = let l = len-with_op disk (Write (Temp user) Version rehearsal_version) fits in let e = ap (λ d. map.len (view d)) made in omega (arith, l, e)
+stage-falls seed (Made ForDe) user birth way disk disk' fits made = let l = len-with_op disk (Write (Temp user) Version rehearsal_version) fits in let e = ap (λ d. map.len (view d)) made in omega (arith, l, e)
+stage-falls seed (Versioned ForCe) user birth way disk disk' fits made = let l = len-with_op disk (Write (Temp user) EncryptedKey (rehearsal_key seed ForCe user birth)) fits in let e = ap (λ d. map.len (view d)) made in omega (arith, l, e)
+stage-falls seed (Versioned ForDe) user birth way disk disk' fits made = let l = len-with_op disk (Write (Temp user) EncryptedKey (rehearsal_key seed ForDe user birth)) fits in let e = ap (λ d. map.len (view d)) made in omega (arith, l, e)
+stage-falls seed (Keyed ForCe) user birth way disk disk' fits made = let e = ap (λ d. map.len (view d)) made in omega (arith, e)
+stage-falls seed (Keyed ForDe) user birth way disk disk' fits made = let e = ap (λ d. map.len (view d)) made in omega (arith, e)
+stage-falls seed (Settled ForCe) user birth way disk disk' fits made = let l = len-with_op disk (RenameDir (Temp user) (Ce user Current)) fits in let e = ap (λ d. map.len (view d)) made in omega (arith, l, e)
+stage-falls seed (Settled ForDe) user birth way disk disk' fits made = let l = len-with_op disk (RenameDir (Temp user) (De user)) fits in let e = ap (λ d. map.len (view d)) made in omega (arith, l, e)
+stage-falls seed Renamed user birth way disk disk' fits made = let l = len-with_op disk (MakeDir (Temp user)) fits in let e = ap (λ d. map.len (view d)) made in omega (arith, l, e)
+stage-falls seed Created user birth way disk disk' fits made = let e = ap (λ d. map.len (view d)) made in omega (arith, e)
 
 failed-len : (call : Call) (disk disk' : Disk) → Fits (view disk) call → IsFailed disk disk' call → map.len (view disk') ≡ map.len (view disk)
 failed-len (Change (MakeDir place)) disk disk' fits failed = ap (λ d. map.len (view d)) failed
@@ -155,31 +165,23 @@ some_turns (Settled ForDe) = omega arith
 some_turns Renamed = omega arith
 some_turns Created = omega arith
 
-call-falls : (create : Create) (way : Option Place) (made : Bool) (disk disk' : Disk) → Fits (view disk) (call_of create way) → IsMade disk disk' (call_of create way) (Ok made)
+call-falls : (seed : List ℕ) (create : Create) (way : Option Place) (made : Bool) (disk disk' : Disk) → Fits (view disk) (call_of seed create way) → IsMade disk disk' (call_of seed create way) (Ok made)
     → map.len (view disk') + turns_of_task (task_after made create way) < map.len (view disk) + turns_at create.stage
-call-falls create way true disk disk' fits made = stage-falls create.stage create.user create.birth way disk disk' fits made
-call-falls create way false disk disk' fits failed =
-    let same = failed-len (call_of create way) disk disk' fits failed in
+call-falls seed create way true disk disk' fits made = stage-falls seed create.stage create.user create.birth way disk disk' fits made
+call-falls seed create way false disk disk' fits failed =
+    let same = failed-len (call_of seed create way) disk disk' fits failed in
     let more = some_turns create.stage in
     omega (arith, same, more)
 
-first_turns : (places : PlaceMap) (command : Command) (birth : Birth) → turns_of_task (first_task places command birth) ≤ 14
-first_turns places (CreateCommand user) birth = either (is_some (map.get places _))
+first_turns : (phase : Phase) (places : PlaceMap) (command : Command) (birth : Birth) → turns_of_task (first_task phase places command birth) ≤ 14
+first_turns phase places (CreateCommand user) birth = either (is_some (map.get places _))
   where
     either : (t : Bool) → turns_of_task (cond t (Replying UserExists) (Creating (record { user = user; birth = birth; stage = Clearing }))) ≤ 14
     either true = omega arith
     either false = omega arith
-first_turns places Recover birth = omega arith
-
-queue-falls : (waiting : Waiting) (actor : Actor) (number : ℕ) (numbers : List ℕ) → map.get waiting actor ≡ Some (number ∷ numbers) → total_by length (map.values (with_queue waiting actor numbers)) + 1 ≡ total_by length (map.values waiting)
-queue-falls waiting actor number [] queued =
-    let s = sum-remove actor_total length actor_exact waiting actor in
-    let w = ap (worth length) queued in
-    omega (arith, s, w)
-queue-falls waiting actor number (n ∷ ns) queued =
-    let s = sum-insert actor_total length waiting actor (n ∷ ns) in
-    let w = ap (worth length) queued in
-    omega (arith, s, w)
+first_turns Up places Recover birth = omega arith
+first_turns Down places Recover birth = omega arith
+first_turns Halted places Recover birth = omega arith
 
 run-more : (running : RunningMap) (actor : Actor) (it : Running) → IsNone (map.get running actor) → total_by turns_of (map.values (map.insert running actor it)) ≡ total_by turns_of (map.values running) + turns_of it
 run-more running actor it none =
@@ -197,15 +199,49 @@ not_idle book actor it at idle = none (sym (ap is_some at) ∙ idle.0)
     none : true ≡ false → ⊥
     none e = cc
 
+next_turns : (left : Option Place) (dirty : Bool) → turns_of_task (recovery_task left dirty) ≤ 3
+next_turns (Some place) dirty = omega arith
+next_turns None true = omega arith
+next_turns None false = omega arith
+
+-- a recovery's call leaves fewer turns, with the directory that it took
+recovery-falls : (recovery : Recovery) (made : Bool) (disk disk' : Disk) (places places' : PlaceMap) (left : Option Place) (power : Power) (pending : List Bool) → RecoveryFits (view disk) recovery → RecoveryStands disk places (Recovering recovery)
+    → IsRecovered disk disk' places places' recovery (Ok made) → IsFirstLeft places' left
+    → map.len (view disk') + turns_of_task (task_recovered made left (power_recovered made recovery power pending).dirty) < map.len (view disk) + turns_to recovery
+recovery-falls Listing true disk disk' places places' left power pending fits stands call first = let n = next_turns left power.dirty in let e = ap (λ d. map.len (view d)) call.0 in omega (arith, n, e)
+recovery-falls (Remove place) true disk disk' places places' left power pending fits stands call first =
+    let n = next_turns left true in
+    let l = len-with_op disk (RemoveDir place) fits in
+    let e = ap (λ d. map.len (view d)) call.0 in
+    omega (arith, n, l, e)
+recovery-falls SyncRecovery true disk disk' places places' None power pending fits stands call first = let e = ap (λ d. map.len (view d)) call.0 in omega (arith, e)
+recovery-falls SyncRecovery true disk disk' places places' (Some place) power pending fits stands call first =
+    absurd (stands.none place (subst (λ p. IsSome (map.get p place)) call.1 first.1) (subst (λ p. IsLeft p place) call.1 first.0))
+recovery-falls Listing false disk disk' places places' left power pending fits stands call first = let e = ap (λ d. map.len (view d)) call.0 in omega (arith, e)
+recovery-falls (Remove place) false disk disk' places places' left power pending fits stands call first = let e = ap (λ d. map.len (view d)) call.0 in omega (arith, e)
+recovery-falls SyncRecovery false disk disk' places places' left power pending fits stands call first = let e = ap (λ d. map.len (view d)) call.0 in omega (arith, e)
+
+same_tree : {D : Type 0} (disk : D → Disk) (before after : BookState D) (user : ℕ) → after.tree ≡ before.tree → SameFor user (view (disk before.tree)) (view (disk after.tree))
+same_tree disk before after user same = subst (λ t. SameFor user (view (disk before.tree)) (view (disk t))) (sym same) (record { same = λ place own. refl })
+
+same_user : {a b : ℕ} → User a ≡ User b → a ≡ b
+same_user e = cc
+
+no_user : (owner : ℕ) → Boot ≡ User owner → ⊥
+no_user owner e = cc
+
 module _ {D : Type 0} (disk : D → Disk) (counts : D → Counts) where
-  pub goes-begin : (before after : BookState D) (actor : Actor) → IsNone (map.get before.running actor) → IsSome (map.get before.waiting actor) → Begins before after actor → Goes disk counts before after actor
-  goes-begin before after actor none some begins = record {
+  pub goes-begin : (before after : BookState D) (actor : Actor) → IsNone (map.get before.running actor) → IsSome (map.get before.waiting actor) → TakesTurn before.power.phase actor → Begins before after actor → Goes disk counts before after actor
+  goes-begin before after actor none some takes begins = record {
     turn = subst (TurnsFrom disk counts before after actor) (sym (none_of (map.get before.running actor) none)) begins;
     busy = λ idle. absent (sym some ∙ idle.1);
+    takes = takes;
+    isolates = λ owner user is differ. same_tree disk before after user (ap (λ b. b.tree) begins.state);
     falls =
-        let q = queue-falls before.waiting actor begins.number begins.numbers begins.queued in
-        let r = run-more before.running actor (record { number = begins.number; task = first_task before.places begins.command (record { boot = 0; index = unwrap_or (map.get before.begun actor) 0 }) }) none in
-        let t = first_turns before.places begins.command (record { boot = 0; index = unwrap_or (map.get before.begun actor) 0 }) in
+        let birth : Birth = record { boot = before.power.boot; index = unwrap_or (map.get before.begun actor) 0 } in
+        let q = sum-with_queue before.waiting actor begins.number begins.numbers begins.queued in
+        let r = run-more before.running actor (record { number = begins.number; task = first_task before.power.phase before.places begins.command birth }) none in
+        let t = first_turns before.power.phase before.places begins.command birth in
         let e = ap (turns_left disk) begins.state in
         omega (arith, q, r, t, e);
   }
@@ -221,18 +257,38 @@ module _ {D : Type 0} (disk : D → Disk) (counts : D → Counts) where
   goes-call before after actor number create whole at calls = record {
     turn = subst (TurnsFrom disk counts before after actor) (sym at) calls;
     busy = not_idle before actor _ at;
+    takes = runs-takes disk before actor _ whole at;
+    isolates = λ owner user is differ. call-isolates disk before after.tree actor number create calls.in_the_way calls.made whole at calls.first calls.call user (λ e. differ (sym (same_user (sym is ∙ e))));
     falls =
-        let f = call-falls create calls.in_the_way calls.made (disk before.tree) (disk after.tree) (call-fits disk before actor number create calls.in_the_way whole at calls.first) calls.call in
+        let f = call-falls before.seed create calls.in_the_way calls.made (disk before.tree) (disk after.tree) (call-fits disk before actor number create calls.in_the_way whole at calls.first) calls.call in
         let s = sum-insert actor_total turns_of before.running actor (record { number = number; task = task_after calls.made create calls.in_the_way }) in
         let w = ap (worth turns_of) at in
         let e = ap (turns_left disk) calls.state in
         omega (arith, f, s, w, e);
   }
 
-  pub goes-reply : (before after : BookState D) (actor : Actor) (number : ℕ) (reply : Reply) → map.get before.running actor ≡ Some (record { number = number; task = Replying reply }) → after ≡ after_reply before actor number reply → Goes disk counts before after actor
-  goes-reply before after actor number reply at state = record {
+  pub goes-recover : (before after : BookState D) (actor : Actor) (number : ℕ) (recovery : Recovery) → IsWhole disk before → map.get before.running actor ≡ Some (record { number = number; task = Recovering recovery }) → Recovers disk counts before after actor number recovery → Goes disk counts before after actor
+  goes-recover before after actor number recovery whole at recovers = record {
+    turn = subst (TurnsFrom disk counts before after actor) (sym at) recovers;
+    busy = not_idle before actor _ at;
+    takes = runs-takes disk before actor _ whole at;
+    isolates = λ owner user is differ. absurd (no_user owner (sym (recovering-boot disk before actor number recovery whole at) ∙ is));
+    falls =
+        let task = task_recovered recovers.made recovers.left (power_recovered recovers.made recovery before.power before.pending).dirty in
+        let f = recovery-falls recovery recovers.made (disk before.tree) (disk after.tree) before.places recovers.places recovers.left before.power before.pending (recovery-fits-book disk before actor number recovery whole at)
+        (recovery-stands disk before actor number recovery whole at) recovers.call recovers.first in
+        let s = sum-insert actor_total turns_of before.running actor (record { number = number; task = task }) in
+        let w = ap (worth turns_of) at in
+        let e = ap (turns_left disk) recovers.state in
+        omega (arith, f, s, w, e);
+  }
+
+  pub goes-reply : (before after : BookState D) (actor : Actor) (number : ℕ) (reply : Reply) → IsWhole disk before → map.get before.running actor ≡ Some (record { number = number; task = Replying reply }) → after ≡ after_reply before actor number reply → Goes disk counts before after actor
+  goes-reply before after actor number reply whole at state = record {
     turn = subst (TurnsFrom disk counts before after actor) (sym at) state;
     busy = not_idle before actor _ at;
+    takes = runs-takes disk before actor _ whole at;
+    isolates = λ owner user is differ. same_tree disk before after user (ap (λ b. b.tree) state);
     falls =
         let s = sum-remove actor_total turns_of actor_exact before.running actor in
         let w = ap (worth turns_of) at in

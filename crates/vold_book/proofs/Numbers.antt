@@ -1,5 +1,5 @@
--- The numbers stand after each kind of entry and after a command was given out.
-use Rattle.std.proofs.Common.{◌≡◌, ◌≢◌, ◌⊎◌, inl, inr, ℕ, ◌+◌, ◌<◌, ◌≤◌, cond, List, [], ◌∷◌, ◌++◌, length, refl, sym, ap, ◌∙◌, subst, arith, length-append}
+-- The numbers stand after each kind of entry, after a command was given out, and after a restart.
+use Rattle.std.proofs.Common.{◌≡◌, ◌≢◌, ◌⊎◌, inl, inr, ℕ, ◌+◌, ◌<◌, ◌≤◌, Bool, true, false, cond, List, [], ◌∷◌, ◌++◌, length, refl, sym, ap, ◌∙◌, subst, arith, length-append}
 use Rattle.std.specs.Prelude.{Option, Some, None, IfSome, IsSomeAnd, Contains, slice_get, unwrap_or}
 use Rattle.std.specs.FinMap as map
 use Rattle.std.proofs.lemmas.List.{append-nil}
@@ -7,48 +7,43 @@ use Rattle.std.proofs.lemmas.Bool.{cases_lt}
 use Rattle.std.proofs.lemmas.Option.{slice_get_within, slice_get-get_or}
 use Rattle.std.proofs.Math.ListN.{get_or-append}
 use Rattle.std.proofs.Math.Seq.{get_or-append_seam}
-use Rattle.std.proofs.lemmas.List.Elements.{Contains-push, Contains-push_cases, Contains-append_left, Contains-append_cases}
-use Rattle.tree_model.proofs.Maps.{decide_key, tied, apart, get-insert_same, get-insert_other, get-remove_same, get-remove_other}
+use Rattle.std.proofs.lemmas.List.Elements.{Contains-push, Contains-push_cases, Contains-append_left, Contains-append_right, Contains-append_cases}
+use Rattle.tree_model.proofs.Maps.{decide_key, get-insert_same, get-insert_other, get-remove_same, get-remove_other}
 use Rattle.journal_model.specs.declared.commands.Actor.{Actor}
 use Rattle.journal_model.specs.declared.commands.Command.{Command}
 use Rattle.journal_model.specs.declared.entries.Entry.{Entry}
 use Rattle.journal_model.specs.declared.entries.Entry.TheVariants.{Began, Changed, Synced, Stopped, Restarted, Replied}
 use Rattle.journal_model.specs.Actor.{actor_total, actor_exact}
 use Rattle.journal_model.specs.Command.{actor_of}
-use Rattle.journal_model.specs.Machine.{count_after, begun_by, number_begun, numbers_begun}
-use Rattle.journal_model.proofs.Steps.{begun_by-append, numbers_begun-append}
-use Rattle.vold_book.specs.Numbers.{Waiting, floor_after, floor_from, floor_of, BeganAsGiven, AllAsGiven, Rises, IsQueue, NumbersStand, queue_of, with_queue}
+use Rattle.journal_model.specs.Machine.{count_after, begun_from, begun_by, number_begun, numbers_begun}
+use Rattle.journal_model.proofs.Steps.{numbers_begun-append}
+use Rattle.vold_book.specs.Numbers.{Waiting, BeganAsGiven, AllAsGiven, AllWait, IsQueue, NumbersStand, queue_of, with_queue, total_by}
+use Rattle.vold_book.proofs.Sums.{worth, sum-insert, sum-remove}
 
--- an entry that begins no command and doesn't restart
+-- an entry that begins no command
 abbrev pub IsQuiet : Entry → Type 0
 IsQuiet (Began number actor command) = ⊥
 IsQuiet (Changed number change) = Unit {0}
 IsQuiet Synced = Unit {0}
 IsQuiet (Stopped kept) = Unit {0}
-IsQuiet (Restarted boot level) = ⊥
+IsQuiet (Restarted boot level) = Unit {0}
 IsQuiet (Replied number reply) = Unit {0}
-
-floor_from-append : (low : ℕ) (actor : Actor) (entries : List Entry) (entry : Entry) → floor_from low actor (entries ++ entry ∷ []) ≡ floor_after actor (floor_from low actor entries) entry
-floor_from-append low actor [] entry = refl
-floor_from-append low actor (first ∷ entries) entry = floor_from-append (floor_after actor low first) actor entries entry
-
-pub floor_of-append : (actor : Actor) (entries : List Entry) (entry : Entry) → floor_of actor (entries ++ entry ∷ []) ≡ floor_after actor (floor_of actor entries) entry
-floor_of-append actor entries entry = floor_from-append 0 actor entries entry
 
 -- what a quiet entry leaves
 record LeavesNumbers (entry : Entry) : Type 0 where
-  floor : (actor : Actor) (low : ℕ) → floor_after actor low entry ≡ low
-  count : (actor : Actor) (count : ℕ) → count_after actor count entry ≡ count
   number : number_begun entry ≡ []
   given : (commands : List Command) → BeganAsGiven commands entry
 
 quiet_leaves : (entry : Entry) → IsQuiet entry → LeavesNumbers entry
 quiet_leaves (Began n a c) quiet = absurd quiet
-quiet_leaves (Changed n c) quiet = record { floor = λ a l. refl; count = λ a c. refl; number = refl; given = λ cs. tt }
-quiet_leaves Synced quiet = record { floor = λ a l. refl; count = λ a c. refl; number = refl; given = λ cs. tt }
-quiet_leaves (Stopped kept) quiet = record { floor = λ a l. refl; count = λ a c. refl; number = refl; given = λ cs. tt }
-quiet_leaves (Restarted boot level) quiet = absurd quiet
-quiet_leaves (Replied n r) quiet = record { floor = λ a l. refl; count = λ a c. refl; number = refl; given = λ cs. tt }
+quiet_leaves (Changed n c) quiet = record { number = refl; given = λ cs. tt }
+quiet_leaves Synced quiet = record { number = refl; given = λ cs. tt }
+quiet_leaves (Stopped kept) quiet = record { number = refl; given = λ cs. tt }
+quiet_leaves (Restarted boot level) quiet = record { number = refl; given = λ cs. tt }
+quiet_leaves (Replied n r) quiet = record { number = refl; given = λ cs. tt }
+
+pub begun-quiet : (entries : List Entry) (entry : Entry) → IsQuiet entry → numbers_begun (entries ++ entry ∷ []) ≡ numbers_begun entries
+begun-quiet entries entry quiet = numbers_begun-append entries entry ∙ ap (λ ns. numbers_begun entries ++ ns) (quiet_leaves entry quiet).number ∙ append-nil (numbers_begun entries)
 
 all_given-append : (commands : List Command) (entries : List Entry) (entry : Entry) → AllAsGiven commands entries → BeganAsGiven commands entry → AllAsGiven commands (entries ++ entry ∷ [])
 all_given-append commands [] entry all one = (one, tt)
@@ -58,42 +53,44 @@ all_given-append commands (first ∷ entries) entry all one = (all.0, all_given-
 pub numbers-quiet : (entries : List Entry) (commands : List Command) (waiting : Waiting) (entry : Entry) → IsQuiet entry → NumbersStand entries commands waiting → NumbersStand (entries ++ entry ∷ []) commands waiting
 numbers-quiet entries commands waiting entry quiet stand =
     let leaves = quiet_leaves entry quiet in
-    let floor : (actor : Actor) → floor_of actor (entries ++ entry ∷ []) ≡ floor_of actor entries = λ actor. floor_of-append actor entries entry ∙ leaves.floor actor (floor_of actor entries) in
-    let count : (actor : Actor) → begun_by actor (entries ++ entry ∷ []) ≡ begun_by actor entries = λ actor. begun_by-append actor entries entry ∙ leaves.count actor (begun_by actor entries) in
-    let numbers : numbers_begun (entries ++ entry ∷ []) ≡ numbers_begun entries = numbers_begun-append entries entry ∙ ap (λ ns. numbers_begun entries ++ ns) leaves.number ∙ append-nil (numbers_begun entries) in
+    let numbers = begun-quiet entries entry quiet in
     record {
       as_given = all_given-append commands entries entry stand.as_given (leaves.given commands);
-      queues = λ actor. subst (λ low. IfSome (map.get waiting actor) (IsQueue commands actor low)) (sym (floor actor)) (stand.queues actor);
+      queues = λ actor. subst (λ ns. IfSome (map.get waiting actor) (IsQueue commands ns actor)) (sym numbers) (stand.queues actor);
       kept = λ number command given. subst (λ ns. Contains ns number ⊎ IsSomeAnd (map.get waiting (actor_of command)) (λ queue. Contains queue number)) (sym numbers) (stand.kept number command given);
-      below = λ number command began given. let at = stand.below number command (subst (λ ns. Contains ns number) numbers began) given in omega (arith, at, floor (actor_of command));
-      counts = λ actor. let at = stand.counts actor in omega (arith, at, count actor, floor actor);
-      floors = λ actor. let at = stand.floors actor in omega (arith, at, floor actor);
+      total = ap (λ ns. length ns + total_by length (map.values waiting)) numbers ∙ stand.total;
     }
 
 get-with_queue_other : (waiting : Waiting) (actor : Actor) (numbers : List ℕ) (other : Actor) → other ≢ actor → map.get (with_queue waiting actor numbers) other ≡ map.get waiting other
 get-with_queue_other waiting actor [] other differ = get-remove_other actor_total actor_exact waiting actor other differ
 get-with_queue_other waiting actor (n ∷ ns) other differ = get-insert_other actor_total actor_exact waiting actor (n ∷ ns) other differ
 
-nothing_in : (number : ℕ) → ¬ (Contains [] number)
+pub nothing_in : (number : ℕ) → ¬ (Contains [] number)
 nothing_in number (k, within, at) = absurd (omega (arith, within))
 
 not_nil : (n : ℕ) (ns : List ℕ) → (n ∷ ns) ≢ []
 not_nil n ns e = cc
 
-queue-with_queue : (commands : List Command) (waiting : Waiting) (actor : Actor) (low : ℕ) (numbers : List ℕ) → Rises commands actor low numbers → IfSome (map.get (with_queue waiting actor numbers) actor) (IsQueue commands actor low)
-queue-with_queue commands waiting actor low [] rises = subst (λ found. IfSome found (IsQueue commands actor low)) (sym (get-remove_same actor_total actor_exact waiting actor)) tt
-queue-with_queue commands waiting actor low (n ∷ ns) rises =
-    subst (λ found. IfSome found (IsQueue commands actor low)) (sym (get-insert_same actor_total actor_exact waiting actor (n ∷ ns))) (record { some = not_nil n ns; rises = rises })
+pub contains-here : (n : ℕ) (ns : List ℕ) → Contains (n ∷ ns) n
+contains-here n ns = Contains-append_left (n ∷ []) ns n (Contains-push [] n)
 
-contained-with_queue : (waiting : Waiting) (actor : Actor) (numbers : List ℕ) (number : ℕ) → Contains numbers number → IsSomeAnd (map.get (with_queue waiting actor numbers) actor) (λ queue. Contains queue number)
-contained-with_queue waiting actor [] number there = absurd (nothing_in number there)
-contained-with_queue waiting actor (n ∷ ns) number there = subst (λ found. IsSomeAnd found (λ queue. Contains queue number)) (sym (get-insert_same actor_total actor_exact waiting actor (n ∷ ns))) there
+contains-there : (n : ℕ) (ns : List ℕ) (number : ℕ) → Contains ns number → Contains (n ∷ ns) number
+contains-there n ns number there = Contains-append_right (n ∷ []) ns number there
 
-contains-cons : (n : ℕ) (ns : List ℕ) (number : ℕ) → Contains (n ∷ ns) number → (n ≡ number) ⊎ Contains ns number
+pub contains-cons : (n : ℕ) (ns : List ℕ) (number : ℕ) → Contains (n ∷ ns) number → (n ≡ number) ⊎ Contains ns number
 contains-cons n ns number there = elim (Contains-append_cases (n ∷ []) ns number there) [
   | inl one ↦ elim (Contains-push_cases [] n number one) [ inl none ↦ absurd (nothing_in number none) | inr same ↦ inl same ]
   | inr rest ↦ inr rest
 ]
+
+queue-with_queue : (commands : List Command) (waiting : Waiting) (actor : Actor) (began : List ℕ) (numbers : List ℕ) → AllWait commands began actor numbers → IfSome (map.get (with_queue waiting actor numbers) actor) (IsQueue commands began actor)
+queue-with_queue commands waiting actor began [] wait = subst (λ found. IfSome found (IsQueue commands began actor)) (sym (get-remove_same actor_total actor_exact waiting actor)) tt
+queue-with_queue commands waiting actor began (n ∷ ns) wait =
+    subst (λ found. IfSome found (IsQueue commands began actor)) (sym (get-insert_same actor_total actor_exact waiting actor (n ∷ ns))) (record { some = not_nil n ns; wait = wait })
+
+contained-with_queue : (waiting : Waiting) (actor : Actor) (numbers : List ℕ) (number : ℕ) → Contains numbers number → IsSomeAnd (map.get (with_queue waiting actor numbers) actor) (λ queue. Contains queue number)
+contained-with_queue waiting actor [] number there = absurd (nothing_in number there)
+contained-with_queue waiting actor (n ∷ ns) number there = subst (λ found. IsSomeAnd found (λ queue. Contains queue number)) (sym (get-insert_same actor_total actor_exact waiting actor (n ∷ ns))) there
 
 some_same : {A : Type 0} (a b : A) → Some a ≡ Some b → a ≡ b
 some_same a b e = cc
@@ -123,65 +120,88 @@ at_actors actor P here others other = elim (decide_key actor_total actor_exact o
   | inr differ ↦ others other differ
 ]
 
+-- one more number began, which isn't one of these
+all_wait-begun : (commands : List Command) (began : List ℕ) (actor : Actor) (number : ℕ) (ns : List ℕ) → ¬ (Contains ns number) → AllWait commands began actor ns → AllWait commands (began ++ number ∷ []) actor ns
+all_wait-begun commands began actor number [] apart wait = tt
+all_wait-begun commands began actor number (n ∷ ns) apart wait = (
+  wait.0,
+  λ there. elim (Contains-push_cases began number n there) [ inl old ↦ wait.1 old | inr same ↦ apart (subst (Contains (n ∷ ns)) (sym same) (contains-here n ns)) ],
+  wait.2,
+  all_wait-begun commands began actor number ns (λ there. apart (contains-there n ns number there)) wait.3,
+)
+
+-- a number that waits for an actor is of a command of that actor
+owner-waits : (commands : List Command) (began : List ℕ) (actor : Actor) (number : ℕ) (ns : List ℕ) → AllWait commands began actor ns → Contains ns number → IsSomeAnd (slice_get commands number) (λ command. actor_of command ≡ actor)
+owner-waits commands began actor number [] wait there = absurd (nothing_in number there)
+owner-waits commands began actor number (n ∷ ns) wait there = elim (contains-cons n ns number there) [
+  | inl same ↦ subst (λ k. IsSomeAnd (slice_get commands k) (λ command. actor_of command ≡ actor)) same wait.0
+  | inr later ↦ owner-waits commands began actor number ns wait.3 later
+]
+
+apart_from : (commands : List Command) (began : List ℕ) (actor other : Actor) (number : ℕ) (command : Command) (found : Option (List ℕ)) → slice_get commands number ≡ Some command → actor_of command ≡ actor → other ≢ actor
+    → IfSome found (IsQueue commands began other) → IfSome found (IsQueue commands (began ++ number ∷ []) other)
+apart_from commands began actor other number command None given own differ queue = tt
+apart_from commands began actor other number command (Some ns) given own differ queue = record {
+  some = queue.some;
+  wait = all_wait-begun commands began other number ns
+      (λ there. differ (sym (subst (λ f. IsSomeAnd f (λ c. actor_of c ≡ other)) given (owner-waits commands began other number ns queue.wait there)) ∙ own)) queue.wait;
+}
+
+pub sum-with_queue : (waiting : Waiting) (actor : Actor) (number : ℕ) (numbers : List ℕ) → map.get waiting actor ≡ Some (number ∷ numbers) → total_by length (map.values (with_queue waiting actor numbers)) + 1 ≡ total_by length (map.values waiting)
+sum-with_queue waiting actor number [] queue =
+    let taken = sum-remove actor_total length actor_exact waiting actor in
+    let was = ap (worth length) queue in
+    omega (arith, taken, was)
+sum-with_queue waiting actor number (n ∷ ns) queue =
+    let put = sum-insert actor_total length waiting actor (n ∷ ns) in
+    let was = ap (worth length) queue in
+    omega (arith, put, was)
+
+-- the first of an actor's queue is a command of the actor that didn't begin
+pub record IsFresh (entries : List Entry) (commands : List Command) (actor : Actor) (number : ℕ) (numbers : List ℕ) (command : Command) : Type 0 where
+  pub own : actor_of command ≡ actor
+  pub fresh : ¬ (Contains (numbers_begun entries) number)
+  pub rest : AllWait commands (numbers_begun entries ++ number ∷ []) actor numbers
+
+pub first-fresh : (entries : List Entry) (commands : List Command) (waiting : Waiting) (actor : Actor) (number : ℕ) (numbers : List ℕ) (command : Command)
+    → map.get waiting actor ≡ Some (number ∷ numbers) → slice_get commands number ≡ Some command → NumbersStand entries commands waiting → IsFresh entries commands actor number numbers command
+first-fresh entries commands waiting actor number numbers command queue given stand =
+    let before : IsQueue commands (numbers_begun entries) actor (number ∷ numbers) = subst (λ found. IfSome found (IsQueue commands (numbers_begun entries) actor)) queue (stand.queues actor) in
+    record {
+      own = subst (λ found. IsSomeAnd found (λ c. actor_of c ≡ actor)) given before.wait.0;
+      fresh = before.wait.1;
+      rest = all_wait-begun commands (numbers_begun entries) actor number numbers before.wait.2 before.wait.3;
+    }
+
 -- the first of an actor's queue begins
 pub numbers-began : (entries : List Entry) (commands : List Command) (waiting : Waiting) (actor : Actor) (number : ℕ) (numbers : List ℕ) (command : Command)
     → map.get waiting actor ≡ Some (number ∷ numbers) → slice_get commands number ≡ Some command → NumbersStand entries commands waiting
-    → (actor_of command ≡ actor) × NumbersStand (entries ++ Began number actor command ∷ []) commands (with_queue waiting actor numbers)
+    → NumbersStand (entries ++ Began number actor command ∷ []) commands (with_queue waiting actor numbers)
 numbers-began entries commands waiting actor number numbers command queue given stand =
-    let before : IsQueue commands actor (floor_of actor entries) (number ∷ numbers) = subst (λ found. IfSome found (IsQueue commands actor (floor_of actor entries))) queue (stand.queues actor) in
-    let own : actor_of command ≡ actor = subst (λ found. IsSomeAnd found (λ c. actor_of c ≡ actor)) given before.rises.1 in
-    let entry = Began number actor command in
-    let numbers_now = numbers_begun-append entries entry in
-    let floor_here : floor_of actor (entries ++ entry ∷ []) ≡ number + 1 = floor_of-append actor entries entry ∙ ap (λ t. cond t (number + 1) (floor_of actor entries)) (tied actor_total actor_exact actor actor refl) in
-    let floor_there : (other : Actor) → other ≢ actor → floor_of other (entries ++ entry ∷ []) ≡ floor_of other entries =
-    λ other differ. floor_of-append other entries entry ∙ ap (λ t. cond t (number + 1) (floor_of other entries)) (apart actor_total actor_exact other actor differ) in
-    let count_here : begun_by actor (entries ++ entry ∷ []) ≡ begun_by actor entries + 1 = begun_by-append actor entries entry ∙ ap (λ t. cond t (begun_by actor entries + 1) (begun_by actor entries)) (tied actor_total actor_exact actor actor refl) in
-    let count_there : (other : Actor) → other ≢ actor → begun_by other (entries ++ entry ∷ []) ≡ begun_by other entries =
-    λ other differ. begun_by-append other entries entry ∙ ap (λ t. cond t (begun_by other entries + 1) (begun_by other entries)) (apart actor_total actor_exact other actor differ) in
-    let within : number < length commands = slice_get_within commands number command given in
-    let above : floor_of actor entries ≤ number = before.rises.0 in (
-      own,
-      record {
-        as_given = all_given-append commands entries entry stand.as_given (given, sym own);
-        queues = at_actors actor (λ a. IfSome (map.get (with_queue waiting actor numbers) a) (IsQueue commands a (floor_of a (entries ++ entry ∷ []))))
-            (subst (λ low. IfSome (map.get (with_queue waiting actor numbers) actor) (IsQueue commands actor low)) (sym floor_here) (queue-with_queue commands waiting actor (number + 1) numbers before.rises.2))
-            (λ other differ. subst (λ low. IfSome (map.get (with_queue waiting actor numbers) other) (IsQueue commands other low)) (sym (floor_there other differ))
-            (subst (λ found. IfSome found (IsQueue commands other (floor_of other entries))) (sym (get-with_queue_other waiting actor numbers other differ)) (stand.queues other)));
-        kept = λ n c at. kept_began entries commands waiting actor number numbers command queue given own stand n c at;
-        below = λ n c began at. elim (Contains-push_cases (numbers_begun entries) number n (subst (λ ns. Contains ns n) numbers_now began)) [
-          | inl earlier ↦ at_actors actor (λ a. actor_of c ≡ a → n < floor_of a (entries ++ entry ∷ []))
-              (λ e. let was : n < floor_of actor entries = subst (λ a. n < floor_of a entries) e (stand.below n c earlier at) in omega (arith, was, floor_here, above))
-              (λ other differ e. let was : n < floor_of other entries = subst (λ a. n < floor_of a entries) e (stand.below n c earlier at) in omega (arith, was, floor_there other differ))
-              (actor_of c) refl
-          | inr same ↦
-              let is_own : actor_of c ≡ actor = ap actor_of (some_same c command (sym at ∙ ap (slice_get commands) (sym same) ∙ given)) ∙ own in
-              subst (λ a. n < floor_of a (entries ++ entry ∷ [])) (sym is_own) (omega (arith, same, floor_here))
-        ];
-        counts = at_actors actor (λ a. begun_by a (entries ++ entry ∷ []) ≤ floor_of a (entries ++ entry ∷ []))
-            (let was = stand.counts actor in omega (arith, was, floor_here, count_here, above))
-            (λ other differ. let was = stand.counts other in omega (arith, was, floor_there other differ, count_there other differ));
-        floors = at_actors actor (λ a. floor_of a (entries ++ entry ∷ []) ≤ length commands)
-            (omega (arith, floor_here, within))
-            (λ other differ. let was = stand.floors other in omega (arith, was, floor_there other differ));
-      },
-    )
-
--- a number that isn't begun is above its actor's floor, so the first of a queue is fresh
-pub fresh : (entries : List Entry) (commands : List Command) (waiting : Waiting) (actor : Actor) (number : ℕ) (numbers : List ℕ) (command : Command)
-    → map.get waiting actor ≡ Some (number ∷ numbers) → slice_get commands number ≡ Some command → NumbersStand entries commands waiting → ¬ (Contains (numbers_begun entries) number)
-fresh entries commands waiting actor number numbers command queue given stand began =
-    let before : IsQueue commands actor (floor_of actor entries) (number ∷ numbers) = subst (λ found. IfSome found (IsQueue commands actor (floor_of actor entries))) queue (stand.queues actor) in
-    let own : actor_of command ≡ actor = subst (λ found. IsSomeAnd found (λ c. actor_of c ≡ actor)) given before.rises.1 in
-    let low : number < floor_of actor entries = subst (λ a. number < floor_of a entries) own (stand.below number command began given) in
-    let above : floor_of actor entries ≤ number = before.rises.0 in
-    omega (arith, low, above)
+    let first = first-fresh entries commands waiting actor number numbers command queue given stand in
+    let began = numbers_begun entries ++ number ∷ [] in
+    let now : numbers_begun (entries ++ Began number actor command ∷ []) ≡ numbers_begun entries ++ number ∷ [] = numbers_begun-append entries (Began number actor command) in
+    record {
+      as_given = all_given-append commands entries (Began number actor command) stand.as_given (given, sym first.own);
+      queues = subst (λ ns. (a : Actor) → IfSome (map.get (with_queue waiting actor numbers) a) (IsQueue commands ns a)) (sym now)
+          (at_actors actor (λ a. IfSome (map.get (with_queue waiting actor numbers) a) (IsQueue commands began a)) (queue-with_queue commands waiting actor began numbers first.rest)
+          (λ other differ. subst (λ found. IfSome found (IsQueue commands began other)) (sym (get-with_queue_other waiting actor numbers other differ))
+          (apart_from commands (numbers_begun entries) actor other number command (map.get waiting other) given first.own differ (stand.queues other))));
+      kept = λ n c at. kept_began entries commands waiting actor number numbers command queue given first.own stand n c at;
+      total =
+          let more = length-append (numbers_begun entries) (number ∷ []) in
+          let is = ap length now in
+          let fewer = sum-with_queue waiting actor number numbers queue in
+          let was = stand.total in
+          omega (arith, more, is, fewer, was);
+    }
 
 slice_get-push_before : (commands : List Command) (command : Command) (number : ℕ) → number < length commands → slice_get (commands ++ command ∷ []) number ≡ slice_get commands number
 slice_get-push_before commands command number within =
     slice_get-get_or (commands ++ command ∷ []) number command (omega (arith, length-append commands (command ∷ [])))
     ∙ ap Some (get_or-append commands (command ∷ []) command number within) ∙ sym (slice_get-get_or commands number command within)
 
-slice_get-push_at : (commands : List Command) (command : Command) → slice_get (commands ++ command ∷ []) (length commands) ≡ Some command
+pub slice_get-push_at : (commands : List Command) (command : Command) → slice_get (commands ++ command ∷ []) (length commands) ≡ Some command
 slice_get-push_at commands command =
     slice_get-get_or (commands ++ command ∷ []) (length commands) command (omega (arith, length-append commands (command ∷ [])))
     ∙ ap Some (get_or-append_seam commands command [] command)
@@ -209,25 +229,48 @@ owned-push commands command actor number owned =
       | Some c ↦ λ e h. subst (λ found. IsSomeAnd found (λ c. actor_of c ≡ actor)) (sym (slice_get-push commands command c number e)) h
     ] refl owned
 
-rises-push : (commands : List Command) (command : Command) (actor : Actor) (low : ℕ) (numbers : List ℕ) → Rises commands actor low numbers → Rises (commands ++ command ∷ []) actor low numbers
-rises-push commands command actor low [] rises = omega (arith, length-append commands (command ∷ []))
-rises-push commands command actor low (n ∷ ns) rises = (rises.0, owned-push commands command actor n rises.1, rises-push commands command actor (n + 1) ns rises.2)
+owned-within : (commands : List Command) (actor : Actor) (number : ℕ) → IsSomeAnd (slice_get commands number) (λ c. actor_of c ≡ actor) → number < length commands
+owned-within commands actor number owned =
+    elim (slice_get commands number) as (λ found. slice_get commands number ≡ found → IsSomeAnd found (λ c. actor_of c ≡ actor) → number < length commands) [
+      | None ↦ λ e h. absurd h
+      | Some c ↦ λ e h. slice_get_within commands number c e
+    ] refl owned
 
-rises-more : (commands : List Command) (command : Command) (low : ℕ) (numbers : List ℕ) → Rises commands (actor_of command) low numbers → Rises (commands ++ command ∷ []) (actor_of command) low (numbers ++ length commands ∷ [])
-rises-more commands command low [] rises =
-    (rises, subst (λ found. IsSomeAnd found (λ c. actor_of c ≡ actor_of command)) (sym (slice_get-push_at commands command)) refl, omega (arith, length-append commands (command ∷ [])))
-rises-more commands command low (n ∷ ns) rises = (rises.0, owned-push commands command (actor_of command) n rises.1, rises-more commands command (n + 1) ns rises.2)
+-- each number that waits is given out
+pub waits-within : (commands : List Command) (began : List ℕ) (actor : Actor) (number : ℕ) (ns : List ℕ) → AllWait commands began actor ns → Contains ns number → number < length commands
+waits-within commands began actor number ns wait there = owned-within commands actor number (owner-waits commands began actor number ns wait there)
 
-queue_rises : (entries : List Entry) (commands : List Command) (waiting : Waiting) (actor : Actor) → NumbersStand entries commands waiting → Rises commands actor (floor_of actor entries) (queue_of waiting actor)
-queue_rises entries commands waiting actor stand =
-    elim (map.get waiting actor) as (λ found. IfSome found (IsQueue commands actor (floor_of actor entries)) → Rises commands actor (floor_of actor entries) (unwrap_or found [])) [
-      | None ↦ λ h. stand.floors actor
-      | Some ns ↦ λ h. h.rises
-    ] (stand.queues actor)
+all_wait-push : (commands : List Command) (command : Command) (began : List ℕ) (actor : Actor) (ns : List ℕ) → AllWait commands began actor ns → AllWait (commands ++ command ∷ []) began actor ns
+all_wait-push commands command began actor [] wait = tt
+all_wait-push commands command began actor (n ∷ ns) wait = (owned-push commands command actor n wait.0, wait.1, wait.2, all_wait-push commands command began actor ns wait.3)
 
-push_not_nil : (ns : List ℕ) (n : ℕ) → (ns ++ n ∷ []) ≢ []
-push_not_nil [] n e = cc
-push_not_nil (m ∷ ns) n e = cc
+not-within : (n m : ℕ) → n < m → n ≢ m
+not-within n m below same = omega (arith, below, same)
+
+-- a new number, last
+all_wait-last : (commands : List Command) (command : Command) (began : List ℕ) (ns : List ℕ) → ¬ (Contains began (length commands)) → AllWait commands began (actor_of command) ns
+    → AllWait (commands ++ command ∷ []) began (actor_of command) (ns ++ length commands ∷ [])
+all_wait-last commands command began [] fresh wait =
+    (subst (λ found. IsSomeAnd found (λ c. actor_of c ≡ actor_of command)) (sym (slice_get-push_at commands command)) refl, fresh, nothing_in (length commands), tt)
+all_wait-last commands command began (n ∷ ns) fresh wait = (
+  owned-push commands command (actor_of command) n wait.0,
+  wait.1,
+  λ there. elim (Contains-push_cases ns (length commands) n there) [
+    | inl old ↦ wait.2 old
+    | inr same ↦ not-within n (length commands) (owned-within commands (actor_of command) n wait.0) (sym same)
+  ],
+  all_wait-last commands command began ns fresh wait.3,
+)
+
+-- a new number, first
+all_wait-first : (commands : List Command) (command : Command) (began : List ℕ) (ns : List ℕ) → ¬ (Contains began (length commands)) → AllWait commands began (actor_of command) ns
+    → AllWait (commands ++ command ∷ []) began (actor_of command) (length commands ∷ ns)
+all_wait-first commands command began ns fresh wait = (
+  subst (λ found. IsSomeAnd found (λ c. actor_of c ≡ actor_of command)) (sym (slice_get-push_at commands command)) refl,
+  fresh,
+  λ there. not-within (length commands) (length commands) (waits-within commands began (actor_of command) (length commands) ns wait there) refl,
+  all_wait-push commands command began (actor_of command) ns wait,
+)
 
 first_begun : (commands : List Command) (entry : Entry) (number : ℕ) → BeganAsGiven commands entry → Contains (number_begun entry) number → length commands ≤ number → ⊥
 first_begun commands (Began n a c) number given began past =
@@ -247,59 +290,124 @@ begun_within (entry ∷ entries) commands number given began past = elim (Contai
   | inr later ↦ begun_within entries commands number given.1 later past
 ]
 
-kept_given : (entries : List Entry) (commands : List Command) (waiting : Waiting) (command : Command) → NumbersStand entries commands waiting
-    → (n : ℕ) (c : Command) → slice_get (commands ++ command ∷ []) n ≡ Some c
-    → Contains (numbers_begun entries) n ⊎ IsSomeAnd (map.get (map.insert waiting (actor_of command) (queue_of waiting (actor_of command) ++ length commands ∷ [])) (actor_of c)) (λ queue. Contains queue n)
-kept_given entries commands waiting command stand n c at =
+-- the number that is given out next didn't begin
+pub next-fresh : (entries : List Entry) (commands : List Command) (waiting : Waiting) → NumbersStand entries commands waiting → ¬ (Contains (numbers_begun entries) (length commands))
+next-fresh entries commands waiting stand there = begun_within entries commands (length commands) stand.as_given there (omega arith)
+
+pub queue_waits : (entries : List Entry) (commands : List Command) (waiting : Waiting) (actor : Actor) → NumbersStand entries commands waiting → AllWait commands (numbers_begun entries) actor (queue_of waiting actor)
+queue_waits entries commands waiting actor stand =
+    elim (map.get waiting actor) as (λ found. IfSome found (IsQueue commands (numbers_begun entries) actor) → AllWait commands (numbers_begun entries) actor (unwrap_or found [])) [
+      | None ↦ λ h. tt
+      | Some ns ↦ λ h. h.wait
+    ] (stand.queues actor)
+
+in_queue : (found : Option (List ℕ)) (n : ℕ) → IsSomeAnd found (λ ns. Contains ns n) → Contains (unwrap_or found []) n
+in_queue None n h = absurd h
+in_queue (Some ns) n h = h
+
+worth-length : (found : Option (List ℕ)) → worth length found ≡ length (unwrap_or found [])
+worth-length None = refl
+worth-length (Some ns) = refl
+
+queue-push : (commands : List Command) (command : Command) (began : List ℕ) (a : Actor) (found : Option (List ℕ)) → IfSome found (IsQueue commands began a) → IfSome found (IsQueue (commands ++ command ∷ []) began a)
+queue-push commands command began a None h = tt
+queue-push commands command began a (Some ns) h = record { some = h.some; wait = all_wait-push commands command began a ns h.wait }
+
+-- one more command was given out, and its number stands somewhere in its actor's queue
+pub record Joins (commands : List Command) (command : Command) (began : List ℕ) (old new : List ℕ) : Type 0 where
+  pub some : new ≢ []
+  pub wait : AllWait (commands ++ command ∷ []) began (actor_of command) new
+  pub all : (n : ℕ) → Contains old n → Contains new n
+  pub there : Contains new (length commands)
+  pub more : length new ≡ length old + 1
+
+numbers-joined : (entries : List Entry) (commands : List Command) (waiting : Waiting) (command : Command) (new : List ℕ) → NumbersStand entries commands waiting
+    → Joins commands command (numbers_begun entries) (queue_of waiting (actor_of command)) new → NumbersStand entries (commands ++ command ∷ []) (map.insert waiting (actor_of command) new)
+numbers-joined entries commands waiting command new stand joins =
     let actor = actor_of command in
-    let queue = queue_of waiting actor ++ length commands ∷ [] in
-    let P = λ (found : Option (List ℕ)). IsSomeAnd found (λ ns. Contains ns n) in
-    let here = get-insert_same actor_total actor_exact waiting actor queue in
-    elim (cases_lt n (length commands)) [
-      | inl old ↦ elim (stand.kept n c (sym (slice_get-push_before commands command n old) ∙ at)) [
-        | inl began ↦ inl began
-        | inr waits ↦ inr (elim (decide_key actor_total actor_exact (actor_of c) actor) [
-          | inl same ↦ subst (λ a. P (map.get (map.insert waiting actor queue) a)) (sym same) (subst P (sym here)
-              (Contains-append_left (queue_of waiting actor) (length commands ∷ []) n (in_queue (map.get waiting actor) (subst (λ a. P (map.get waiting a)) same waits))))
-          | inr differ ↦ subst P (sym (get-insert_other actor_total actor_exact waiting actor queue (actor_of c) differ)) waits
-        ])
-      ]
-      | inr new ↦
-          let is_last : n ≡ length commands = let within = slice_get_within (commands ++ command ∷ []) n c at in omega (arith, new, within, length-append commands (command ∷ [])) in
-          let is_own : c ≡ command = some_same c command (sym at ∙ ap (slice_get (commands ++ command ∷ [])) is_last ∙ slice_get-push_at commands command) in
-          inr (subst (λ a. P (map.get (map.insert waiting actor queue) a)) (sym (ap actor_of is_own)) (subst P (sym here) (subst (Contains queue) (sym is_last) (Contains-push (queue_of waiting actor) (length commands)))))
-    ]
+    let began = numbers_begun entries in
+    let here = get-insert_same actor_total actor_exact waiting actor new in
+    record {
+      as_given = all_given-push commands command entries stand.as_given;
+      queues = at_actors actor (λ a. IfSome (map.get (map.insert waiting actor new) a) (IsQueue (commands ++ command ∷ []) began a))
+          (subst (λ found. IfSome found (IsQueue (commands ++ command ∷ []) began actor)) (sym here) (record { some = joins.some; wait = joins.wait }))
+          (λ other differ. subst (λ found. IfSome found (IsQueue (commands ++ command ∷ []) began other)) (sym (get-insert_other actor_total actor_exact waiting actor new other differ)) (queue-push commands command began other (map.get waiting other) (stand.queues other)));
+      kept = λ n c at. kept n c at;
+      total =
+          let put = sum-insert actor_total length waiting actor new in
+          let was = worth-length (map.get waiting actor) in
+          let more = joins.more in
+          let all = stand.total in
+          omega (arith, put, was, more, all, length-append commands (command ∷ []));
+    }
   where
-    in_queue : (found : Option (List ℕ)) → IsSomeAnd found (λ ns. Contains ns n) → Contains (unwrap_or found []) n
-    in_queue None h = absurd h
-    in_queue (Some ns) h = h
+    kept : (n : ℕ) (c : Command) → slice_get (commands ++ command ∷ []) n ≡ Some c → Contains (numbers_begun entries) n ⊎ IsSomeAnd (map.get (map.insert waiting (actor_of command) new) (actor_of c)) (λ queue. Contains queue n)
+    kept n c at =
+        let P = λ (found : Option (List ℕ)). IsSomeAnd found (λ ns. Contains ns n) in
+        let here = get-insert_same actor_total actor_exact waiting (actor_of command) new in
+        elim (cases_lt n (length commands)) [
+          | inl old ↦ elim (stand.kept n c (sym (slice_get-push_before commands command n old) ∙ at)) [
+            | inl began ↦ inl began
+            | inr waits ↦ inr (elim (decide_key actor_total actor_exact (actor_of c) (actor_of command)) [
+              | inl same ↦ subst (λ a. P (map.get (map.insert waiting (actor_of command) new) a)) (sym same) (subst P (sym here) (joins.all n (in_queue (map.get waiting (actor_of command)) n (subst (λ a. P (map.get waiting a)) same waits))))
+              | inr differ ↦ subst P (sym (get-insert_other actor_total actor_exact waiting (actor_of command) new (actor_of c) differ)) waits
+            ])
+          ]
+          | inr late ↦
+              let is_last : n ≡ length commands = let within = slice_get_within (commands ++ command ∷ []) n c at in omega (arith, late, within, length-append commands (command ∷ [])) in
+              let is_own : c ≡ command = some_same c command (sym at ∙ ap (slice_get (commands ++ command ∷ [])) is_last ∙ slice_get-push_at commands command) in
+              inr (subst (λ a. P (map.get (map.insert waiting (actor_of command) new) a)) (sym (ap actor_of is_own)) (subst P (sym here) (subst (Contains new) (sym is_last) joins.there)))
+        ]
+
+push_not_nil : (ns : List ℕ) (n : ℕ) → (ns ++ n ∷ []) ≢ []
+push_not_nil [] n e = cc
+push_not_nil (m ∷ ns) n e = cc
 
 -- one more command was given out, and waits last for its actor
 pub numbers-given : (entries : List Entry) (commands : List Command) (waiting : Waiting) (command : Command) → NumbersStand entries commands waiting
     → NumbersStand entries (commands ++ command ∷ []) (map.insert waiting (actor_of command) (queue_of waiting (actor_of command) ++ length commands ∷ []))
 numbers-given entries commands waiting command stand =
-    let actor = actor_of command in
-    let queue = queue_of waiting actor ++ length commands ∷ [] in
-    let P = λ (n : ℕ) (found : Option (List ℕ)). IsSomeAnd found (λ ns. Contains ns n) in
-    let here = get-insert_same actor_total actor_exact waiting actor queue in
-    let there = λ (other : Actor) (differ : other ≢ actor). get-insert_other actor_total actor_exact waiting actor queue other differ in
-    record {
-      as_given = all_given-push commands command entries stand.as_given;
-      queues = λ other. elim (decide_key actor_total actor_exact other actor) [
-        | inl same ↦ subst (λ a. IfSome (map.get (map.insert waiting actor queue) a) (IsQueue (commands ++ command ∷ []) a (floor_of a entries))) (sym same)
-            (subst (λ found. IfSome found (IsQueue (commands ++ command ∷ []) actor (floor_of actor entries))) (sym here)
-            (record { some = push_not_nil (queue_of waiting actor) (length commands); rises = rises-more commands command (floor_of actor entries) (queue_of waiting actor) (queue_rises entries commands waiting actor stand) }))
-        | inr differ ↦ subst (λ found. IfSome found (IsQueue (commands ++ command ∷ []) other (floor_of other entries))) (sym (there other differ)) (queue-push commands command other (floor_of other entries) (map.get waiting other) (stand.queues other))
-      ];
-      kept = λ n c at. kept_given entries commands waiting command stand n c at;
-      below = λ n c began at. elim (cases_lt n (length commands)) [
-        | inl old ↦ stand.below n c began (sym (slice_get-push_before commands command n old) ∙ at)
-        | inr new ↦ absurd (begun_within entries commands n stand.as_given began new)
-      ];
-      counts = stand.counts;
-      floors = λ a. let was = stand.floors a in omega (arith, was, length-append commands (command ∷ []));
-    }
+    let queue = queue_of waiting (actor_of command) in
+    numbers-joined entries commands waiting command (queue ++ length commands ∷ []) stand (record {
+      some = push_not_nil queue (length commands);
+      wait = all_wait-last commands command (numbers_begun entries) queue (next-fresh entries commands waiting stand) (queue_waits entries commands waiting (actor_of command) stand);
+      all = λ n there. Contains-append_left queue (length commands ∷ []) n there;
+      there = Contains-push queue (length commands);
+      more = length-append queue (length commands ∷ []);
+    })
+
+-- one more command was given out, and is the first that waits for its actor
+pub numbers-given_first : (entries : List Entry) (commands : List Command) (waiting : Waiting) (command : Command) → NumbersStand entries commands waiting
+    → NumbersStand entries (commands ++ command ∷ []) (map.insert waiting (actor_of command) (length commands ∷ queue_of waiting (actor_of command)))
+numbers-given_first entries commands waiting command stand =
+    let queue = queue_of waiting (actor_of command) in
+    numbers-joined entries commands waiting command (length commands ∷ queue) stand (record {
+      some = not_nil (length commands) queue;
+      wait = all_wait-first commands command (numbers_begun entries) queue (next-fresh entries commands waiting stand) (queue_waits entries commands waiting (actor_of command) stand);
+      all = λ n there. contains-there (length commands) queue n there;
+      there = contains-here (length commands) queue;
+      more = omega arith;
+    })
+
+-- an actor's commands in this boot are no more than the commands that began
+counted : (actor : Actor) (count : ℕ) (entry : Entry) → count_after actor count entry ≤ count + length (number_begun entry)
+counted actor count (Began n a c) = either _
   where
-    queue-push : (commands : List Command) (command : Command) (a : Actor) (low : ℕ) (found : Option (List ℕ)) → IfSome found (IsQueue commands a low) → IfSome found (IsQueue (commands ++ command ∷ []) a low)
-    queue-push commands command a low None h = tt
-    queue-push commands command a low (Some ns) h = record { some = h.some; rises = rises-push commands command a low ns h.rises }
+    either : (t : Bool) → cond t (count + 1) count ≤ count + 1
+    either true = omega arith
+    either false = omega arith
+counted actor count (Changed n c) = omega arith
+counted actor count Synced = omega arith
+counted actor count (Stopped kept) = omega arith
+counted actor count (Restarted boot level) = omega arith
+counted actor count (Replied n r) = omega arith
+
+counts-from : (actor : Actor) (count : ℕ) (entries : List Entry) → begun_from count actor entries ≤ count + length (numbers_begun entries)
+counts-from actor count [] = omega arith
+counts-from actor count (entry ∷ entries) =
+    let one = counted actor count entry in
+    let rest = counts-from actor (count_after actor count entry) entries in
+    omega (arith, one, rest, length-append (number_begun entry) (numbers_begun entries))
+
+pub few-begun : (actor : Actor) (entries : List Entry) (commands : List Command) (waiting : Waiting) → NumbersStand entries commands waiting → begun_by actor entries ≤ length commands
+few-begun actor entries commands waiting stand = let all = stand.total in let count = counts-from actor 0 entries in omega (arith, all, count)

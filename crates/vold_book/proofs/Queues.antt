@@ -67,6 +67,25 @@ adds-none before aside after actor queue more sorted found put_aside sorted' put
     put_twice before aside after actor more sorted put_aside sorted' put_back
     ∙ insert_present actor_total actor_exact (waiting_of before) actor more (get-rows actor_cmp before.rows sorted actor ∙ found ∙ ap Some (sym is))
 
+-- a number was put first
+pub adds-front : (before aside after : Sorted Actor (List ℕ)) (actor : Actor) (queue more : List ℕ) (number : ℕ) → IsSorted actor_cmp before.rows → find actor_cmp actor before.rows ≡ Some queue
+    → aside.rows ≡ put actor_cmp actor [] before.rows → IsSorted actor_cmp aside.rows → after.rows ≡ put actor_cmp actor more aside.rows → more ≡ number ∷ queue
+    → waiting_of after ≡ map.insert (waiting_of before) actor (number ∷ queue_of (waiting_of before) actor)
+adds-front before aside after actor queue more number sorted found put_aside sorted' put_back is =
+    put_twice before aside after actor more sorted put_aside sorted' put_back
+    ∙ ap (map.insert (waiting_of before) actor) (is ∙ ap (λ q. number ∷ q) (sym (ap (λ f. unwrap_or f []) (get-rows actor_cmp before.rows sorted actor ∙ found))))
+
+-- where no queue was there, a number put first or last is alone
+pub adds-alone : (before after : Sorted Actor (List ℕ)) (actor : Actor) (queue : List ℕ) (number : ℕ) → IsSorted actor_cmp before.rows → ¬ (IsSome (find actor_cmp actor before.rows)) → after.rows ≡ put actor_cmp actor queue before.rows → queue ≡ number ∷ []
+    → waiting_of after ≡ map.insert (waiting_of before) actor (number ∷ queue_of (waiting_of before) actor)
+adds-alone before after actor queue number sorted none put_in is =
+    ap (λ rows. map.from_sorted rows) put_in ∙ insert-rows actor_total before.rows sorted actor queue
+    ∙ ap (map.insert (waiting_of before) actor) (is ∙ ap (λ q. number ∷ q) (sym (ap (λ f. unwrap_or f []) (get-rows actor_cmp before.rows sorted actor ∙ nothing (find actor_cmp actor before.rows) none))))
+  where
+    nothing : (found : Option (List ℕ)) → ¬ (IsSome found) → found ≡ None
+    nothing None h = refl
+    nothing (Some q) h = absurd (h refl)
+
 pub adds-first : (before after : Sorted Actor (List ℕ)) (actor : Actor) (queue : List ℕ) (number : ℕ) → IsSorted actor_cmp before.rows → ¬ (IsSome (find actor_cmp actor before.rows)) → after.rows ≡ put actor_cmp actor queue before.rows → queue ≡ number ∷ []
     → waiting_of after ≡ map.insert (waiting_of before) actor (queue_of (waiting_of before) actor ++ number ∷ [])
 adds-first before after actor queue number sorted none put_in is =

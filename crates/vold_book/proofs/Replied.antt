@@ -20,9 +20,10 @@ use Rattle.journal_model.specs.Machine.{Machine, Phase, Up, Running as Began, if
 use Rattle.journal_model.proofs.Steps.{begun_by-append, numbers_begun-append}
 use Rattle.vold_book.specs.declared.tasks.Running.{Running}
 use Rattle.vold_book.specs.declared.tasks.Task.TheVariants.{Reply as Replying}
-use Rattle.vold_book.specs.Book.{CountMap, PartsStand, max_commands}
+use Rattle.vold_book.specs.Book.{PartsStand, CountMap, max_commands}
 use Rattle.vold_book.specs.Numbers.{Waiting, queue_of}
 use Rattle.vold_book.specs.Places.{PlaceMap}
+use Rattle.vold_book.proofs.Work.{WorkStands}
 use Rattle.vold_book.specs.TaskStands.{RunningMap, ReplyStands, TaskStands}
 use Rattle.vold_book.proofs.Numbers.{numbers-quiet, numbers-given}
 use Rattle.vold_book.proofs.TaskStands.{disk-same, log-same}
@@ -44,14 +45,14 @@ allowed machine (CreateCommand user) began reply stands = stands
 allowed machine Recover began reply stands = subst (λ verdict. AllowsReply machine began verdict reply) (sym stands) refl
 
 -- what a reply leaves
-pub record RepliesWhole (disk : Disk) (machine : Machine) (entries : List Entry) (commands : List Command) (waiting : Waiting) (running : RunningMap) (counts : CountMap) (places : PlaceMap) (actor : Actor) (number : ℕ) (reply : Reply) : Type 0 where
+pub record RepliesWhole (seed : List ℕ) (disk : Disk) (machine : Machine) (entries : List Entry) (commands : List Command) (waiting : Waiting) (running : RunningMap) (counts : CountMap) (places : PlaceMap) (actor : Actor) (number : ℕ) (reply : Reply) : Type 0 where
   pub may : MayCome entries machine (Replied number reply)
-  pub parts : PartsStand disk (after_entry entries machine (Replied number reply)) (entries ++ Replied number reply ∷ []) commands waiting (map.remove running actor) counts places
+  pub parts : WorkStands seed disk (after_entry entries machine (Replied number reply)) (entries ++ Replied number reply ∷ []) commands waiting (map.remove running actor) counts places
 
-pub parts-replied : (disk : Disk) (machine : Machine) (entries : List Entry) (commands : List Command) (waiting : Waiting) (running : RunningMap) (counts : CountMap) (places : PlaceMap) (actor : Actor) (number : ℕ) (reply : Reply)
-    → PartsStand disk machine entries commands waiting running counts places → map.get running actor ≡ Some (record { number = number; task = Replying reply })
-    → RepliesWhole disk machine entries commands waiting running counts places actor number reply
-parts-replied disk machine entries commands waiting running counts places actor number reply stand at =
+pub parts-replied : (seed : List ℕ) → (disk : Disk) (machine : Machine) (entries : List Entry) (commands : List Command) (waiting : Waiting) (running : RunningMap) (counts : CountMap) (places : PlaceMap) (actor : Actor) (number : ℕ) (reply : Reply)
+    → WorkStands seed disk machine entries commands waiting running counts places → map.get running actor ≡ Some (record { number = number; task = Replying reply })
+    → RepliesWhole seed disk machine entries commands waiting running counts places actor number reply
+parts-replied seed disk machine entries commands waiting running counts places actor number reply stand at =
     let entry = Replied number reply in
     let after : Machine = after_entry entries machine entry in
     let it : Running = record { number = number; task = Replying reply } in
@@ -59,13 +60,13 @@ parts-replied disk machine entries commands waiting running counts places actor 
       may = may_reply (map.get machine.running number) (stand.tasks.run actor it at);
       parts = record {
         up = up_after (map.get machine.running number) machine.phase reply stand.up;
-        boot = stand.boot;
+        boots = stand.boots;
         images = stand.images;
         known = stand.known;
-        tasks = tasks-turn actor number disk disk machine after running (map.remove running actor) (record {
+        tasks = tasks-turn seed actor number disk disk machine after running (map.remove running actor) (record {
           others = λ other differ. get-remove_other actor_total actor_exact running actor other differ;
           on_machine = λ n differ. get-remove_other nat_cmp_total nat_cmp-IsAntisymmetric machine.running number n differ;
-          apart = λ other o differ there. runs_apart disk machine running actor other o it stand.tasks differ there at;
+          apart = λ other o differ there. runs_apart seed disk machine running actor other o it stand.tasks differ there at;
           alone = λ o there. ap (λ r. r.number) (some_same o it (sym there ∙ at));
           keeps_disk = λ user differ. disk-same user disk;
           keeps_log = λ user differ. log-same user machine after refl refl refl;
@@ -88,7 +89,7 @@ parts-replied disk machine entries commands waiting running counts places actor 
     no_began : (o : Began) → None ≡ Some o → ⊥
     no_began o e = cc
 
-    may_reply : (found : Option Began) → IsSomeAnd found (λ began. (actor_of began.command ≡ actor) × TaskStands disk machine (Replying reply) began) → IsSomeAnd found (λ began. AllowsReply machine began began.verdict reply)
+    may_reply : (found : Option Began) → IsSomeAnd found (λ began. (actor_of began.command ≡ actor) × TaskStands seed disk machine (Replying reply) began) → IsSomeAnd found (λ began. AllowsReply machine began began.verdict reply)
     may_reply None run = run
     may_reply (Some began) run = allowed machine began.command began reply run.1
 
@@ -99,17 +100,14 @@ parts-replied disk machine entries commands waiting running counts places actor 
     ]
 
 -- a further command waits last for its actor
-pub parts-given : (disk : Disk) (machine : Machine) (entries : List Entry) (commands : List Command) (waiting : Waiting) (running : RunningMap) (counts : CountMap) (places : PlaceMap) (command : Command)
-    → length commands < max_commands → PartsStand disk machine entries commands waiting running counts places
-    → PartsStand disk machine entries (commands ++ command ∷ []) (map.insert waiting (actor_of command) (queue_of waiting (actor_of command) ++ length commands ∷ [])) running counts places
-parts-given disk machine entries commands waiting running counts places command room stand = record {
-  up = stand.up;
-  boot = stand.boot;
+pub parts-given : (seed : List ℕ) (disk : Disk) (machine : Machine) (entries : List Entry) (commands : List Command) (waiting : Waiting) (counts : CountMap) (command : Command)
+    → length commands < max_commands → PartsStand seed disk machine entries commands waiting counts
+    → PartsStand seed disk machine entries (commands ++ command ∷ []) (map.insert waiting (actor_of command) (queue_of waiting (actor_of command) ++ length commands ∷ [])) counts
+parts-given seed disk machine entries commands waiting counts command room stand = record {
   images = stand.images;
-  known = stand.known;
-  tasks = stand.tasks;
   runs = stand.runs;
   numbers = numbers-given entries commands waiting command stand.numbers;
   counts = stand.counts;
+  boots = let was = stand.boots in omega (arith, was, length-append commands (command ∷ []));
   few = omega (arith, room, length-append commands (command ∷ []));
 }

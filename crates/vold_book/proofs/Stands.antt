@@ -5,7 +5,8 @@ use Rattle.tree_model.specs.Disk.{Disk}
 use Rattle.journal_model.specs.declared.entries.Entry.{Entry}
 use Rattle.journal_model.specs.Machine.{machine_after}
 use Rattle.vold_book.specs.declared.standings.Standing.{Standing}
-use Rattle.vold_book.specs.Book.{BookState, IsWhole, PartsStand}
+use Rattle.vold_book.specs.Book.{BookState, IsWhole, PartsStand, PhaseStands}
+use Rattle.vold_book.specs.Pending.{changes_made}
 use Rattle.vold_book.specs.Stands.{stands_after, stands_from, stands_in, IsLooked}
 
 stands_from-append : (standing : Standing) (number : ℕ) (entries : List Entry) (entry : Entry) → stands_from standing number (entries ++ entry ∷ []) ≡ stands_after (stands_from standing number entries) number entry
@@ -22,7 +23,13 @@ stands_in-more entries i default number standing standing' within next so_far =
 -- a Book that was looked at is as whole as before
 pub looked-whole : {D : Type 0} (disk : D → Disk) (before after : BookState D) → IsLooked disk before after → IsWhole disk before → IsWhole disk after
 looked-whole disk before after looked whole =
+    let same = sym looked.same_disk in
+    let machine = machine_after before.entries in
     subst (IsWhole disk) (sym looked.state) (record {
       legal = whole.legal;
-      parts = subst (λ d. PartsStand d (machine_after before.entries) before.entries before.commands before.waiting before.running before.begun before.places) (sym looked.same_disk) whole.parts;
+      agrees = whole.agrees;
+      pending = whole.pending ∙ ap (λ d. changes_made d.stable d.pending) same;
+      short = whole.short;
+      parts = subst (λ d. PartsStand before.seed d machine before.entries before.commands before.waiting before.begun) same whole.parts;
+      phase = subst (λ d. PhaseStands before.power.phase before.seed d machine before.running before.places before.power.dirty) same whole.phase;
     })

@@ -8,7 +8,7 @@ use Rattle.std.specs.Cmp.{IsTotalOrder}
 use Rattle.std.specs.FinMap as map
 use Rattle.std.specs.FinMap.{IsAntisymmetric, from_sorted, same_entries_map, entries_sorted}
 use Rattle.std.specs.FinMap.Entries.{find, put, by_order, is_sorted, below_all, is_sorted-where_key}
-use Rattle.vold_book.specs.Book.{total_by}
+use Rattle.vold_book.specs.Numbers.{total_by}
 use Rattle.sorted_map.proofs.Rows.{remove-rows}
 use Rattle.sorted_map.specs.Rows.{without}
 

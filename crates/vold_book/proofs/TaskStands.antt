@@ -29,7 +29,7 @@ use Rattle.key_directory.proofs.Law.{fold_changes-append}
 use Rattle.vold_book.specs.declared.tasks.Stage.{Stage}
 use Rattle.vold_book.specs.declared.tasks.Stage.TheVariants.{Clearing, Made, Versioned, Keyed, Settled, Renamed, Created}
 use Rattle.vold_book.specs.declared.tasks.Task.{Task}
-use Rattle.vold_book.specs.declared.tasks.Task.TheVariants.{Create as Creating, Reply as Replying}
+use Rattle.vold_book.specs.declared.tasks.Task.TheVariants.{Create as Creating, Recover as Recovering, Reply as Replying}
 use Rattle.vold_book.specs.declared.tasks.Running.{Running}
 use Rattle.vold_book.specs.Create.{part}
 use Rattle.vold_book.specs.TaskStands.{IsOnItsWay, IsOnItsWayInAll, StageStands, ReplyStands, TaskStands, RunStands}
@@ -129,14 +129,14 @@ in_all-keeps user disk disk' machine machine' current temp keeps_disk keeps_log 
 }
 
 -- a create stands where it stood
-pub stage-keeps : (user : ℕ) (disk disk' : Disk) (machine machine' : Machine) (birth : Birth) (stage : Stage) → KeepsDisk user disk disk' → KeepsLog user machine machine' → StageStands disk machine user birth stage → StageStands disk' machine' user birth stage
-stage-keeps user disk disk' machine machine' birth Clearing keeps_disk keeps_log stands = keeps_log.known ∙ stands
-stage-keeps user disk disk' machine machine' birth (Made class) keeps_disk keeps_log stands = on_its_way-keeps user disk disk' machine machine' _ _ keeps_disk keeps_log stands
-stage-keeps user disk disk' machine machine' birth (Versioned class) keeps_disk keeps_log stands = on_its_way-keeps user disk disk' machine machine' _ _ keeps_disk keeps_log stands
-stage-keeps user disk disk' machine machine' birth (Keyed class) keeps_disk keeps_log stands = on_its_way-keeps user disk disk' machine machine' _ _ keeps_disk keeps_log stands
-stage-keeps user disk disk' machine machine' birth (Settled class) keeps_disk keeps_log stands = in_all-keeps user disk disk' machine machine' _ _ keeps_disk keeps_log stands
-stage-keeps user disk disk' machine machine' birth Renamed keeps_disk keeps_log stands = on_its_way-keeps user disk disk' machine machine' _ _ keeps_disk keeps_log stands
-stage-keeps user disk disk' machine machine' birth Created keeps_disk keeps_log stands = keeps_log.logged (CreateChange user birth) stands
+pub stage-keeps : (seed : List ℕ) → (user : ℕ) (disk disk' : Disk) (machine machine' : Machine) (birth : Birth) (stage : Stage) → KeepsDisk user disk disk' → KeepsLog user machine machine' → StageStands seed disk machine user birth stage → StageStands seed disk' machine' user birth stage
+stage-keeps seed user disk disk' machine machine' birth Clearing keeps_disk keeps_log stands = keeps_log.known ∙ stands
+stage-keeps seed user disk disk' machine machine' birth (Made class) keeps_disk keeps_log stands = on_its_way-keeps user disk disk' machine machine' _ _ keeps_disk keeps_log stands
+stage-keeps seed user disk disk' machine machine' birth (Versioned class) keeps_disk keeps_log stands = on_its_way-keeps user disk disk' machine machine' _ _ keeps_disk keeps_log stands
+stage-keeps seed user disk disk' machine machine' birth (Keyed class) keeps_disk keeps_log stands = on_its_way-keeps user disk disk' machine machine' _ _ keeps_disk keeps_log stands
+stage-keeps seed user disk disk' machine machine' birth (Settled class) keeps_disk keeps_log stands = in_all-keeps user disk disk' machine machine' _ _ keeps_disk keeps_log stands
+stage-keeps seed user disk disk' machine machine' birth Renamed keeps_disk keeps_log stands = on_its_way-keeps user disk disk' machine machine' _ _ keeps_disk keeps_log stands
+stage-keeps seed user disk disk' machine machine' birth Created keeps_disk keeps_log stands = keeps_log.logged (CreateChange user birth) stands
 
 end-keeps : (user : ℕ) (machine machine' : Machine) (began : Began) (reply : Reply) → KeepsLog user machine machine' → AllowsEnd machine began (CreateCommand user) reply → AllowsEnd machine' began (CreateCommand user) reply
 end-keeps user machine machine' began Done keeps allows =
@@ -160,10 +160,10 @@ command-keeps (CreateCommand user) machine machine' began reply is keeps stands 
 command-keeps Recover machine machine' began reply is keeps stands = stands
 
 -- a task stands where it stood, where each user of its actor keeps what is the user's
-pub task-keeps : (disk disk' : Disk) (machine machine' : Machine) (actor : Actor) (task : Task) (began : Began) → actor_of began.command ≡ actor
+pub task-keeps : (seed : List ℕ) → (disk disk' : Disk) (machine machine' : Machine) (actor : Actor) (task : Task) (began : Began) → actor_of began.command ≡ actor
     → ((user : ℕ) → actor ≡ User user → KeepsDisk user disk disk') → ((user : ℕ) → actor ≡ User user → KeepsLog user machine machine')
-    → TaskStands disk machine task began → TaskStands disk' machine' task began
-task-keeps disk disk' machine machine' actor (Creating create) began own keeps_disk keeps_log stands =
+    → TaskStands seed disk machine task began → TaskStands seed disk' machine' task began
+task-keeps seed disk disk' machine machine' actor (Creating create) began own keeps_disk keeps_log stands =
     let is : actor ≡ User create.user = sym own ∙ ap actor_of stands.0.command in (
       record {
         command = stands.0.command;
@@ -171,19 +171,20 @@ task-keeps disk disk' machine machine' actor (Creating create) began own keeps_d
         birth = stands.0.birth ∙ ap (λ boot. record { boot = boot; index = began.index }) (sym (keeps_log create.user is).boot);
         changes = stands.0.changes;
       },
-      stage-keeps create.user disk disk' machine machine' create.birth create.stage (keeps_disk create.user is) (keeps_log create.user is) stands.1,
+      stage-keeps seed create.user disk disk' machine machine' create.birth create.stage (keeps_disk create.user is) (keeps_log create.user is) stands.1,
     )
-task-keeps disk disk' machine machine' actor (Replying reply) began own keeps_disk keeps_log stands =
+task-keeps seed disk disk' machine machine' actor (Recovering recovery) began own keeps_disk keeps_log stands = absurd stands
+task-keeps seed disk disk' machine machine' actor (Replying reply) began own keeps_disk keeps_log stands =
     command-keeps began.command machine machine' began reply refl (λ user is. keeps_log user (sym own ∙ is)) stands
 
 -- what an actor runs stands where it stood, where its command is as it was
-pub run-keeps : (disk disk' : Disk) (machine machine' : Machine) (actor : Actor) (it : Running) → map.get machine'.running it.number ≡ map.get machine.running it.number
+pub run-keeps : (seed : List ℕ) → (disk disk' : Disk) (machine machine' : Machine) (actor : Actor) (it : Running) → map.get machine'.running it.number ≡ map.get machine.running it.number
     → ((user : ℕ) → actor ≡ User user → KeepsDisk user disk disk') → ((user : ℕ) → actor ≡ User user → KeepsLog user machine machine')
-    → RunStands disk machine actor it → RunStands disk' machine' actor it
-run-keeps disk disk' machine machine' actor it same keeps_disk keeps_log stands =
-    let P = λ (found : Option Began). IsSomeAnd found (λ began. (actor_of began.command ≡ actor) × TaskStands disk' machine' it.task began) in
+    → RunStands seed disk machine actor it → RunStands seed disk' machine' actor it
+run-keeps seed disk disk' machine machine' actor it same keeps_disk keeps_log stands =
+    let P = λ (found : Option Began). IsSomeAnd found (λ began. (actor_of began.command ≡ actor) × TaskStands seed disk' machine' it.task began) in
     subst P (sym same)
-    (elim (map.get machine.running it.number) as (λ found. IsSomeAnd found (λ began. (actor_of began.command ≡ actor) × TaskStands disk machine it.task began) → P found) [
+    (elim (map.get machine.running it.number) as (λ found. IsSomeAnd found (λ began. (actor_of began.command ≡ actor) × TaskStands seed disk machine it.task began) → P found) [
       | None ↦ λ h. absurd h
-      | Some began ↦ λ h. (h.0, task-keeps disk disk' machine machine' actor it.task began h.0 keeps_disk keeps_log h.1)
+      | Some began ↦ λ h. (h.0, task-keeps seed disk disk' machine machine' actor it.task began h.0 keeps_disk keeps_log h.1)
     ] stands)

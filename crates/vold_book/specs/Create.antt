@@ -33,17 +33,17 @@ rename_call user ForCe = Change (RenameDir (Temp user) (Ce user Current))
 rename_call user ForDe = Change (RenameDir (Temp user) (De user))
 
 -- the next call of a create, where `in_the_way` is the first place that has to be cleared
-abbrev pub call_at : Stage → ℕ → Birth → Option Place → Call
-call_at Clearing user birth in_the_way = clearing_call user in_the_way
-call_at (Made class) user birth in_the_way = Change (Write (Temp user) Version rehearsal_version)
-call_at (Versioned class) user birth in_the_way = Change (Write (Temp user) EncryptedKey (rehearsal_key class user birth))
-call_at (Keyed class) user birth in_the_way = Sync
-call_at (Settled class) user birth in_the_way = rename_call user class
-call_at Renamed user birth in_the_way = Change (MakeDir (Temp user))
-call_at Created user birth in_the_way = Sync
+abbrev pub call_at : List ℕ → Stage → ℕ → Birth → Option Place → Call
+call_at seed Clearing user birth in_the_way = clearing_call user in_the_way
+call_at seed (Made class) user birth in_the_way = Change (Write (Temp user) Version rehearsal_version)
+call_at seed (Versioned class) user birth in_the_way = Change (Write (Temp user) EncryptedKey (rehearsal_key seed class user birth))
+call_at seed (Keyed class) user birth in_the_way = Sync
+call_at seed (Settled class) user birth in_the_way = rename_call user class
+call_at seed Renamed user birth in_the_way = Change (MakeDir (Temp user))
+call_at seed Created user birth in_the_way = Sync
 
-abbrev pub call_of : Create → Option Place → Call
-call_of create in_the_way = call_at create.stage create.user create.birth in_the_way
+abbrev pub call_of : List ℕ → Create → Option Place → Call
+call_of seed create in_the_way = call_at seed create.stage create.user create.birth in_the_way
 
 -- whose places a create clears: the temporary one and those of credential keys
 abbrev pub IsInTheWay : ℕ → Place → Type 0
@@ -55,8 +55,8 @@ IsInTheWay user (Temp other) = other ≡ user
 abbrev pub with_version : Files
 with_version = map.insert map.empty Version rehearsal_version
 
-abbrev pub with_key : Class → ℕ → Birth → Files
-with_key class user birth = map.insert with_version EncryptedKey (rehearsal_key class user birth)
+abbrev pub with_key : List ℕ → Class → ℕ → Birth → Files
+with_key seed class user birth = map.insert with_version EncryptedKey (rehearsal_key seed class user birth)
 
 -- a user's places, where no device directory is there and no credential directory but the current one
 abbrev pub part : Option Files → Option Files → Place → Option Files
@@ -66,9 +66,9 @@ part current temp (Ce user (Cx n)) = None
 part current temp (Temp user) = temp
 
 -- the credential key's directory at its place, from the first rename on
-abbrev pub current_of : Class → ℕ → Birth → Option Files
-current_of ForCe user birth = None
-current_of ForDe user birth = Some (with_key ForCe user birth)
+abbrev pub current_of : List ℕ → Class → ℕ → Birth → Option Files
+current_of seed ForCe user birth = None
+current_of seed ForDe user birth = Some (with_key seed ForCe user birth)
 
 abbrev pub no_files : Files
 no_files = map.empty

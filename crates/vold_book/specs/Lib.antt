@@ -4,9 +4,13 @@ pub mod Busy
 pub mod Calls
 pub mod Create
 pub mod Numbers
+pub mod Pending
 pub mod Places
-pub mod TaskStands
+pub mod Powered
+pub mod Recover
 pub mod Stands
 pub mod Steps
+pub mod Stops
+pub mod TaskStands
 pub mod Turns
 pub mod Waiting

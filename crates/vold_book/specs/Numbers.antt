@@ -1,6 +1,5 @@
 -- The numbers of commands: which are given out, which wait, and which began.
-use Rattle.std.specs.Prelude.{◌≡◌, ◌≢◌, ℕ, ◌+◌, ◌<◌, ◌≤◌, ◌⊎◌, cond, List, [], ◌∷◌, length, Some, IfSome, IsSomeAnd, Contains, slice_get, unwrap_or}
-use Rattle.std.specs.Ordering.{eq_by_cmp}
+use Rattle.std.specs.Prelude.{◌≡◌, ◌≢◌, ℕ, ◌+◌, ◌⊎◌, List, [], ◌∷◌, length, Some, IfSome, IsSomeAnd, Contains, slice_get, unwrap_or}
 use Rattle.std.specs.FinMap as map
 use Rattle.journal_model.specs.declared.commands.Actor.{Actor}
 use Rattle.journal_model.specs.declared.commands.Command.{Command}
@@ -8,27 +7,11 @@ use Rattle.journal_model.specs.declared.entries.Entry.{Entry}
 use Rattle.journal_model.specs.declared.entries.Entry.TheVariants.{Began, Changed, Synced, Stopped, Restarted, Replied}
 use Rattle.journal_model.specs.Actor.{actor_cmp}
 use Rattle.journal_model.specs.Command.{actor_of}
-use Rattle.journal_model.specs.Machine.{begun_by, numbers_begun}
+use Rattle.journal_model.specs.Machine.{numbers_begun}
 
 -- for each actor that has one, the numbers of the commands that wait, in order
 abbrev pub Waiting : Type 0
 Waiting = map.FinMap actor_cmp (List ℕ)
-
--- one more than the last number that the actor began, with one more entry
-abbrev pub floor_after : Actor → ℕ → Entry → ℕ
-floor_after actor low (Began number other command) = cond (eq_by_cmp actor_cmp actor other) (number + 1) low
-floor_after actor low (Changed number change) = low
-floor_after actor low Synced = low
-floor_after actor low (Stopped kept) = low
-floor_after actor low (Restarted boot level) = low
-floor_after actor low (Replied number reply) = low
-
-abbrev pub floor_from : ℕ → Actor → List Entry → ℕ
-floor_from low actor [] = low
-floor_from low actor (entry ∷ entries) = floor_from (floor_after actor low entry) actor entries
-
-abbrev pub floor_of : Actor → List Entry → ℕ
-floor_of actor entries = floor_from 0 actor entries
 
 -- a command that began is the one that its number was given to
 abbrev pub BeganAsGiven : List Command → Entry → Type 0
@@ -43,29 +26,32 @@ abbrev pub AllAsGiven : List Command → List Entry → Type 0
 AllAsGiven commands [] = Unit {0}
 AllAsGiven commands (entry ∷ entries) = BeganAsGiven commands entry × AllAsGiven commands entries
 
--- the numbers rise from `low` on, and each is of a command of the actor
-abbrev pub Rises : List Command → Actor → ℕ → List ℕ → Type 0
-Rises commands actor low [] = low ≤ length commands
-Rises commands actor low (number ∷ numbers) = (low ≤ number) × IsSomeAnd (slice_get commands number) (λ command. actor_of command ≡ actor) × Rises commands actor (number + 1) numbers
+-- each number is of a command of the actor and didn't begin, and none comes twice
+abbrev pub AllWait : List Command → List ℕ → Actor → List ℕ → Type 0
+AllWait commands began actor [] = Unit {0}
+AllWait commands began actor (number ∷ numbers) =
+    IsSomeAnd (slice_get commands number) (λ command. actor_of command ≡ actor) × ¬ (Contains began number) × ¬ (Contains numbers number) × AllWait commands began actor numbers
 
--- a queue isn't empty, and its numbers rise above those that the actor began
-pub record IsQueue (commands : List Command) (actor : Actor) (low : ℕ) (numbers : List ℕ) : Type 0 where
+-- a queue isn't empty, and its numbers wait
+pub record IsQueue (commands : List Command) (began : List ℕ) (actor : Actor) (numbers : List ℕ) : Type 0 where
   pub some : numbers ≢ []
-  pub rises : Rises commands actor low numbers
+  pub wait : AllWait commands began actor numbers
+
+-- the sum of a count over a list
+abbrev pub total_by : {X : Type 0} → (X → ℕ) → List X → ℕ
+total_by count [] = 0
+total_by count (x ∷ xs) = count x + total_by count xs
 
 pub record NumbersStand (entries : List Entry) (commands : List Command) (waiting : Waiting) : Type 0 where
   -- each command that began is the one of its number
   pub as_given : AllAsGiven commands entries
-  -- what waits for an actor is above what the actor began
-  pub queues : (actor : Actor) → IfSome (map.get waiting actor) (IsQueue commands actor (floor_of actor entries))
+  -- what waits for an actor didn't begin
+  pub queues : (actor : Actor) → IfSome (map.get waiting actor) (IsQueue commands (numbers_begun entries) actor)
   -- no number is lost: it began or waits for its actor
   pub kept : (number : ℕ) (command : Command) → slice_get commands number ≡ Some command
       → Contains (numbers_begun entries) number ⊎ IsSomeAnd (map.get waiting (actor_of command)) (λ numbers. Contains numbers number)
-  -- a number that began is below its actor's floor
-  pub below : (number : ℕ) (command : Command) → Contains (numbers_begun entries) number → slice_get commands number ≡ Some command → number < floor_of (actor_of command) entries
-  -- an actor's commands in this boot are no more than the numbers up to its last
-  pub counts : (actor : Actor) → begun_by actor entries ≤ floor_of actor entries
-  pub floors : (actor : Actor) → floor_of actor entries ≤ length commands
+  -- no number began twice or waits twice
+  pub total : length (numbers_begun entries) + total_by length (map.values waiting) ≡ length commands
 
 -- what waits for an actor
 abbrev pub queue_of : Waiting → Actor → List ℕ

@@ -1,5 +1,5 @@
 -- The places of the view, as they are known without a call: how they follow the calls, and what of them is in the way.
-use Rattle.std.specs.Prelude.{◌≡◌, ℕ, Option, Some, None, IsSome}
+use Rattle.std.specs.Prelude.{◌≡◌, ℕ, Option, Some, None, IsSome, is_some}
 use Rattle.std.specs.FinMap as map
 use Rattle.sorted_map.specs.Rows.{Sorted}
 use Rattle.tree_model.specs.declared.places.Place.{Place}
@@ -7,12 +7,17 @@ use Rattle.tree_model.specs.declared.places.Place.TheVariants.{De, Ce, Temp}
 use Rattle.tree_model.specs.declared.ops.Op.{Op}
 use Rattle.tree_model.specs.declared.ops.Op.TheVariants.{MakeDir, Write, RenameFile, RenameDir, RemoveFile, RemoveDir}
 use Rattle.tree_model.specs.Order.{place_cmp}
+use Rattle.tree_model.specs.Tree.{Tree}
 use Rattle.vold_book.specs.declared.calls.Call.{Call}
 use Rattle.vold_book.specs.declared.calls.Call.TheVariants.{Change, Sync}
 use Rattle.vold_book.specs.Create.{IsInTheWay}
 
 abbrev pub PlaceMap : Type 0
 PlaceMap = map.FinMap place_cmp (Unit {0})
+
+-- these are exactly the places of the tree
+abbrev pub KnowsPlaces : PlaceMap → Tree → Type 0
+KnowsPlaces places tree = (place : Place) → is_some (map.get places place) ≡ is_some (map.get tree place)
 
 -- the rows as a finite map
 abbrev pub places_of : Sorted Place (Unit {0}) → PlaceMap

@@ -21,7 +21,7 @@ use Rattle.vold_book.specs.declared.tasks.Stage.{Stage}
 use Rattle.vold_book.specs.declared.tasks.Stage.TheVariants.{Clearing, Made, Versioned, Keyed, Settled, Renamed, Created}
 use Rattle.vold_book.specs.declared.tasks.Create.{Create}
 use Rattle.vold_book.specs.declared.tasks.Task.{Task}
-use Rattle.vold_book.specs.declared.tasks.Task.TheVariants.{Create as Creating, Reply as Replying}
+use Rattle.vold_book.specs.declared.tasks.Task.TheVariants.{Create as Creating, Recover as Recovering, Reply as Replying}
 use Rattle.vold_book.specs.declared.tasks.Running.{Running}
 use Rattle.vold_book.specs.Create.{part, current_of, with_version, with_key, no_files}
 
@@ -45,14 +45,14 @@ pub record IsOnItsWayInAll (disk : Disk) (machine : Machine) (user : ℕ) (curre
   pub here : PartIs (view disk) user (part current temp)
   pub always : (left : Tree) → IsImage disk.stable disk.pending left → PartIs left user (part current temp)
 
-abbrev pub StageStands : Disk → Machine → ℕ → Birth → Stage → Type 0
-StageStands disk machine user birth Clearing = IsAbsent machine user
-StageStands disk machine user birth (Made class) = IsOnItsWay disk machine user (current_of class user birth) (Some no_files)
-StageStands disk machine user birth (Versioned class) = IsOnItsWay disk machine user (current_of class user birth) (Some with_version)
-StageStands disk machine user birth (Keyed class) = IsOnItsWay disk machine user (current_of class user birth) (Some (with_key class user birth))
-StageStands disk machine user birth (Settled class) = IsOnItsWayInAll disk machine user (current_of class user birth) (Some (with_key class user birth))
-StageStands disk machine user birth Renamed = IsOnItsWay disk machine user (current_of ForDe user birth) None
-StageStands disk machine user birth Created = Contains machine.log (CreateChange user birth)
+abbrev pub StageStands : List ℕ → Disk → Machine → ℕ → Birth → Stage → Type 0
+StageStands seed disk machine user birth Clearing = IsAbsent machine user
+StageStands seed disk machine user birth (Made class) = IsOnItsWay disk machine user (current_of seed class user birth) (Some no_files)
+StageStands seed disk machine user birth (Versioned class) = IsOnItsWay disk machine user (current_of seed class user birth) (Some with_version)
+StageStands seed disk machine user birth (Keyed class) = IsOnItsWay disk machine user (current_of seed class user birth) (Some (with_key seed class user birth))
+StageStands seed disk machine user birth (Settled class) = IsOnItsWayInAll disk machine user (current_of seed class user birth) (Some (with_key seed class user birth))
+StageStands seed disk machine user birth Renamed = IsOnItsWay disk machine user (current_of seed ForDe user birth) None
+StageStands seed disk machine user birth Created = Contains machine.log (CreateChange user birth)
 
 -- the changes that a create made so far
 abbrev pub changes_at : Stage → ℕ → Birth → List Change
@@ -71,21 +71,23 @@ pub record IsCreate (machine : Machine) (create : Create) (began : Began) : Type
   pub birth : create.birth ≡ record { boot = machine.boot; index = began.index }
   pub changes : began.changes ≡ changes_at create.stage create.user create.birth
 
--- the reply may be given; a recovery is only refused
+-- the reply may be given; a recovery is only refused while the machine is up
 abbrev pub ReplyStands : Machine → Command → Began → Reply → Type 0
 ReplyStands machine (CreateCommand user) began reply = AllowsReply machine began began.verdict reply
 ReplyStands machine Recover began reply = began.verdict ≡ Some reply
 
-abbrev pub TaskStands : Disk → Machine → Task → Began → Type 0
-TaskStands disk machine (Creating create) began = IsCreate machine create began × StageStands disk machine create.user create.birth create.stage
-TaskStands disk machine (Replying reply) began = ReplyStands machine began.command began reply
+abbrev pub TaskStands : List ℕ → Disk → Machine → Task → Began → Type 0
+TaskStands seed disk machine (Creating create) began = IsCreate machine create began × StageStands seed disk machine create.user create.birth create.stage
+TaskStands seed disk machine (Recovering recovery) began = ⊥
+TaskStands seed disk machine (Replying reply) began = ReplyStands machine began.command began reply
 
 -- an actor's command is one that began and got no reply, and it stands where its task says
-abbrev pub RunStands : Disk → Machine → Actor → Running → Type 0
-RunStands disk machine actor running = IsSomeAnd (map.get machine.running running.number) (λ began. (actor_of began.command ≡ actor) × TaskStands disk machine running.task began)
+abbrev pub RunStands : List ℕ → Disk → Machine → Actor → Running → Type 0
+RunStands seed disk machine actor running = IsSomeAnd (map.get machine.running running.number) (λ began. (actor_of began.command ≡ actor) × TaskStands seed disk machine running.task began)
 
-pub record TasksStand (disk : Disk) (machine : Machine) (running : RunningMap) : Type 0 where
+-- the running commands of a machine that is up
+pub record TasksStand (seed : List ℕ) (disk : Disk) (machine : Machine) (running : RunningMap) : Type 0 where
   -- what an actor runs is on the machine, and stands where its task says
-  pub run : (actor : Actor) (it : Running) → map.get running actor ≡ Some it → RunStands disk machine actor it
+  pub run : (actor : Actor) (it : Running) → map.get running actor ≡ Some it → RunStands seed disk machine actor it
   -- and each command on the machine is run by its actor
   pub all : (number : ℕ) (began : Began) → map.get machine.running number ≡ Some began → IsSomeAnd (map.get running (actor_of began.command)) (λ it. it.number ≡ number)

@@ -1,30 +1,36 @@
-ghost use Rattle.std.specs.Prelude.{◌≡◌, ◌↔◌, ◌<◌, ◌≤◌, [], ◌∷◌, ◌++◌, Ok, IsSome, IsNone, IsTrue, IfOk, OnOk, OnErr, length, Some, None};
+ghost use Rattle.std.specs.Prelude.{◌≡◌, ◌≢◌, ◌↔◌, true, ◌<◌, ◌≤◌, ◌+◌, ◌^◌, [], ◌∷◌, ◌++◌, Ok, IsSome, IsNone, IsTrue, IfOk, IfErr, OnOk, OnErr, MatchResult, length, Some, None};
 ghost use Rattle.std.specs.FinMap as map;
 ghost use Rattle.vold_book.specs.Book.{IsWhole, max_commands};
 ghost use Rattle.std.specs.Prelude.{vec_len};
 ghost use Rattle.std.specs.Vec.{vec_capacity};
 ghost use Rattle.vold_book.specs.Create.{entry_of};
 ghost use Rattle.vold_book.specs.Places.{places_of};
-ghost use Rattle.vold_book.specs.Turns.{new_book, with_command, IsEnqueued, Begins, Calls, after_reply, task_after, entries_after, places_made, Answers, IsSame};
+ghost use Rattle.vold_book.specs.Turns.{new_book, with_command, IsEnqueued, Begins, Calls, Recovers, after_reply, task_after, task_recovered, entries_after, entries_recovered, power_recovered, pending_recovered, places_made, is_change, phase_after, Answers, IsSame};
 ghost use Rattle.vold_book.specs.Steps.{IsStep};
 ghost use Rattle.tree_model.specs.Counted.{IsCounted};
 ghost use Rattle.tree_model.specs.Disk.{view};
 ghost use Rattle.vold_book.specs.Busy.{earlier_of, IsNextBusy};
 ghost use Rattle.vold_book.specs.Stands.{standing_of, IsLooked};
-ghost use Rattle.vold_book.specs.declared.tasks.Task.TheVariants.{Create as Creating, Reply as Replying};
+ghost use Rattle.vold_book.specs.Stops.{IsStopped, IsRestarted};
+ghost use Rattle.vold_book.specs.Pending.{count_changes, pending_after, power_after};
+ghost use Rattle.vold_book.specs.Powered.{TakesTurn};
+ghost use Rattle.vold_book.specs.Recover.{IsFirstLeft};
+ghost use Rattle.vold_book.specs.declared.power.Phase.TheVariants.{Up, Halted};
+ghost use Rattle.vold_book.specs.declared.tasks.Task.TheVariants.{Create as Creating, Recover as Recovering, Reply as Replying};
 
 use crate::calls::{self, Call};
-use crate::creates;
 use crate::places::{self, Places};
+use crate::power::{self, Phase, Power};
 use crate::standings::{self, Standing};
-use crate::tasks::{Create, Running, Task};
+use crate::tasks::{Create, Recovery, Running, Task};
 use crate::turns::{Step, Turn};
 use crate::waiting::{self, Waiting};
-use journal_model::{Actor, Birth, Command, EnqueueFault, Entry, Journal, Reply};
+use crate::{creates, recoveries};
+use journal_model::{Actor, Birth, Command, EnqueueFault, Entry, Journal, Order, Reply};
 use sorted_map::SortedMap;
 use std::alloc::Global;
 use std::marker::Model;
-use tree_model::{Bytes, DevFault, Dir, NoMemory, Place, TreeDisk};
+use tree_model::{Bytes, Cut, DevFault, Dir, NoMemory, Place, TreeDisk};
 
 /// The most commands that a Book numbers.
 pub const MAX_COMMANDS: usize = 65_536;
@@ -37,11 +43,14 @@ pub struct Book<T: TreeDisk> {
     seed: Bytes,
     journal: Journal,
     callers: Vec<Actor>,
+    orders: Vec<Order>,
     commands: Vec<Command>,
     waiting: Waiting,
     running: SortedMap<Actor, Running>,
     begun: SortedMap<Actor, u32>,
     places: Places,
+    power: Power,
+    pending: Vec<bool>,
 }
 
 impl<T: TreeDisk> Model for Book<T> {
@@ -50,17 +59,18 @@ impl<T: TreeDisk> Model for Book<T> {
     ghost use Rattle.journal_model.specs.Actor.{actor_code};
     ghost use Rattle.tree_model.specs.Order.{place_code};
     ghost use Rattle.vold_book.specs.contracts.tasks.Running as running_type;
+    ghost use Rattle.vold_book.specs.contracts.power.Power as power_type;
     ghost use Rattle.vold_book.specs.Book.{BookState};
 
     ghost Value = { BookState T };
 
-    ghost coded = { Prim.hlevel (codes, T.code, map.code, actor_code, place_code, running_type.the_row.coded) };
+    ghost coded = { Prim.hlevel (codes, T.code, map.code, actor_code, place_code, running_type.the_row.coded, power_type.the_row.coded) };
 
     ghost use Rattle.vold_book.specs.Book.{IsWhole, book_state};
 
-    ghost view = { λ book. book_state book.tree book.seed book.journal.entries book.callers.items book.commands.items book.waiting book.running book.begun book.places };
+    ghost view = { λ book. book_state book.tree book.seed book.journal.entries book.callers.items book.orders.items book.commands.items book.waiting book.running book.begun book.places book.power book.pending.items };
 
-    ghost invariant = { λ book. IsWhole T.disk (book_state book.tree book.seed book.journal.entries book.callers.items book.commands.items book.waiting book.running book.begun book.places) };
+    ghost invariant = { λ book. IsWhole T.disk (book_state book.tree book.seed book.journal.entries book.callers.items book.orders.items book.commands.items book.waiting book.running book.begun book.places book.power book.pending.items) };
 }
 
 impl<T: TreeDisk> Book<T> {
@@ -73,18 +83,20 @@ impl<T: TreeDisk> Book<T> {
         ensures opened { IfOk result (λ book. book ≡ new_book tree seed) }
         ensures whole { IfOk result (IsWhole T.disk) }
     {
-        let _level = level;
         Ok(Book {
             alloc,
             tree,
             seed,
             journal: Journal::new(alloc),
             callers: Vec::new(alloc),
+            orders: Vec::new(alloc),
             commands: Vec::new(alloc),
             waiting: SortedMap::new(alloc),
             running: SortedMap::new(alloc),
             begun: SortedMap::new(alloc),
             places: SortedMap::new(alloc),
+            power: Power::new(level),
+            pending: Vec::new(alloc),
         })
     }
 
@@ -135,11 +147,16 @@ impl<T: TreeDisk> Book<T> {
     {
         match self.next_step(actor) {
             Step::Idle => Ok(Turn::Idle),
+            Step::Waits => Ok(Turn::Waits),
             Step::Begin => {
                 self.begin(actor)?;
                 Ok(Turn::Went)
             }
-            Step::Call(number, create) => {
+            Step::Recover(number, recovery) => {
+                self.recover(actor, number, recovery)?;
+                Ok(Turn::Went)
+            }
+            Step::Create(number, create) => {
                 self.call(actor, number, create)?;
                 Ok(Turn::Went)
             }
@@ -157,16 +174,13 @@ impl<T: TreeDisk> Book<T> {
     {
         match self.running.get(actor) {
             Some(it) => match it.task {
-                Task::Create(create) => Step::Call(it.number, create),
+                Task::Create(create) => Step::Create(it.number, create),
+                Task::Recover(recovery) => Step::Recover(it.number, recovery),
                 Task::Reply(reply) => Step::Reply(it.number, reply),
             },
-            None => {
-                if self.waiting.contains_key(actor) {
-                    Step::Begin
-                } else {
-                    Step::Idle
-                }
-            }
+            None if !self.waiting.contains_key(actor) => Step::Idle,
+            None if self.power.takes(actor) => Step::Begin,
+            None => Step::Waits,
         }
     }
 
@@ -266,14 +280,18 @@ impl<T: TreeDisk> Book<T> {
     fn begin(&mut self, actor: Actor) -> Result<(), NoMemory>
         requires queued { IsSome (map.get self.old.waiting actor) }
         requires idle { IsNone (map.get self.old.running actor) }
+        requires takes { TakesTurn self.old.power.phase actor }
         ensures begun { OnOk result (Begins self.old self.new actor) }
         ensures refused { OnErr result (self.new ≡ self.old) }
     {
         let number = waiting::first(&self.waiting, actor);
         let command = self.commands[number as usize].duplicate(self.alloc)?;
         let index = self.begun.get(actor).copied().unwrap_or(0);
-        let birth = Birth { boot: 0, index };
-        let task = creates::first_task(&self.places, &command, birth);
+        let birth = Birth {
+            boot: self.power.boot,
+            index,
+        };
+        let task = creates::first_task(self.power.phase, &self.places, &command, birth);
         room_to_begin(&mut self.journal, &mut self.running, &mut self.begun)?;
         waiting::take_first(self.alloc, &mut self.waiting, actor);
         self.running
@@ -296,6 +314,7 @@ impl<T: TreeDisk> Book<T> {
     {
         self.journal.reserve()?;
         self.running.remove(actor);
+        self.power.phase = self.power.phase.after_reply(reply);
         self.journal.push(Entry::Replied { number, reply });
         Ok(())
     }
@@ -307,15 +326,23 @@ impl<T: TreeDisk> Book<T> {
         ensures refused { OnErr result (IsSame T.disk T.counts self.old self.new) }
     {
         let in_the_way = places::in_the_way(&self.places, create.user);
-        let call = creates::next_call(self.alloc, &create, in_the_way)?;
+        let call = creates::next_call(self.alloc, self.seed.as_slice(), &create, in_the_way)?;
         room_to_call(
             &mut self.journal,
             &mut self.callers,
             &mut self.running,
             &mut self.places,
+            &mut self.pending,
         )?;
         let made = calls::make(&mut self.tree, &call)?;
         self.callers.push(actor).unwrap();
+        power::note(
+            &mut self.power,
+            &mut self.pending,
+            &call,
+            made,
+            creates::makes_change(&create),
+        );
         let task = settle(
             &mut self.journal,
             &mut self.places,
@@ -330,6 +357,192 @@ impl<T: TreeDisk> Book<T> {
             .unwrap();
         Ok(())
     }
+
+    /// Makes the next call of the recovery.
+    fn recover(&mut self, actor: Actor, number: u64, recovery: Recovery) -> Result<(), NoMemory>
+        requires { map.get self.old.running actor ≡ Some (record { number = number; task = Recovering recovery }) }
+        ensures recovered { OnOk result (Recovers T.disk T.counts self.old self.new actor number recovery) }
+        ensures refused { OnErr result (IsSame T.disk T.counts self.old self.new) }
+    {
+        room_to_call(
+            &mut self.journal,
+            &mut self.callers,
+            &mut self.running,
+            &mut self.places,
+            &mut self.pending,
+        )?;
+        let made = recoveries::make(self.alloc, &mut self.tree, &mut self.places, recovery)?;
+        self.callers.push(actor).unwrap();
+        let left = recoveries::first_left(&self.places);
+        let task = settle_recovery(
+            &mut self.journal,
+            &mut self.power,
+            &mut self.pending,
+            recovery,
+            left,
+            made,
+        );
+        self.running
+            .insert(actor, Running { number, task })
+            .unwrap();
+        Ok(())
+    }
+
+    /// Whether the machine takes every command: it never stopped, or a recovery ended since it started again.
+    pub fn ready(&self) -> bool
+        ensures ready { IsTrue result ↔ (self.now.power.phase ≡ Up) }
+        ensures whole { IsWhole T.disk self.now }
+    {
+        self.power.phase == Phase::Up
+    }
+
+    /// Whether the machine stopped and didn't start again.
+    pub fn stopped(&self) -> bool
+        ensures stopped { IsTrue result ↔ (self.now.power.phase ≡ Halted) }
+        ensures whole { IsWhole T.disk self.now }
+    {
+        self.power.phase == Phase::Halted
+    }
+
+    /// What was given to `stop`, in order.
+    pub fn orders(&self) -> &[Order]
+        ensures orders { result.now ≡ self.now.orders }
+        ensures whole { IsWhole T.disk self.now }
+    {
+        self.orders.as_slice()
+    }
+
+    /// The machine stops. Of the operations since the last sync the first `cut.keep` stay, each write with the bytes of its
+    /// fill; running commands are lost, queued ones stay.
+    ///
+    /// # Errors
+    ///
+    /// Where memory ran out, nothing changed.
+    pub fn stop(&mut self, cut: Cut) -> Result<(), NoMemory>
+        requires { self.old.power.phase ≢ Halted }
+        ensures stopped { OnOk result (IsStopped T.disk T.counts self.old self.new cut) }
+        ensures refused { OnErr result (IsSame T.disk T.counts self.old self.new) }
+        ensures whole { IsWhole T.disk self.new }
+    {
+        let order = Order::Stop(cut.duplicate(self.alloc)?);
+        room_to_stop(&mut self.journal, &mut self.orders)?;
+        let kept = self.power.durable + power::kept_changes(self.pending.as_slice(), cut.keep);
+        self.tree.stop(cut);
+        self.running = SortedMap::new(self.alloc);
+        self.pending.clear();
+        self.power = self.power.halted(kept);
+        self.journal.push(Entry::Stopped { kept });
+        self.orders.push(order).unwrap();
+        Ok(())
+    }
+
+    /// The stopped machine starts again, and a recovery is put first in the queue of its actor; its number is the answer.
+    /// The level is the one that the machine has. Full exactly where every number is given out. On a refusal nothing
+    /// changes.
+    pub fn restart(&mut self, level: u32) -> Result<u64, EnqueueFault>
+        requires stopped { self.old.power.phase ≡ Halted }
+        requires level { level ≡ self.old.power.level }
+        ensures number { IfOk result (λ number. number ≡ length self.old.commands) }
+        ensures restarted { OnOk result (IsRestarted T.disk T.counts self.old self.new level) }
+        ensures refused { OnErr result (self.new ≡ self.old) }
+        ensures full { (result ≡ Err EnqueueFault.Full) ↔ (length self.old.commands ≡ max_commands) }
+        ensures whole { IsWhole T.disk self.new }
+    {
+        if self.is_full() {
+            return Err(EnqueueFault::Full);
+        }
+        match self.start_again(level) {
+            Ok(number) => Ok(number),
+            Err(NoMemory) => Err(EnqueueFault::NoMemory),
+        }
+    }
+
+    /// Starts the stopped machine again, where a number is left for its recovery.
+    fn start_again(&mut self, level: u32) -> Result<u64, NoMemory>
+        requires stopped { self.old.power.phase ≡ Halted }
+        requires level { level ≡ self.old.power.level }
+        requires few { length self.old.commands < max_commands }
+        ensures number { IfOk result (λ number. number ≡ length self.old.commands) }
+        ensures restarted { OnOk result (IsRestarted T.disk T.counts self.old self.new level) }
+        ensures refused { OnErr result (self.new ≡ self.old) }
+    {
+        let number = self.commands.as_slice().len() as u64;
+        let boot = self.power.boot + 1;
+        self.journal.reserve()?;
+        reserve_command(&mut self.commands)?;
+        waiting::add_first(self.alloc, &mut self.waiting, Actor::Boot, number)?;
+        self.tree.restart();
+        self.commands.push(Command::Recover).unwrap();
+        self.begun = SortedMap::new(self.alloc);
+        self.power = self.power.started(boot, level);
+        self.journal.push(Entry::Restarted { boot, level });
+        Ok(number)
+    }
+}
+
+/// Notes a recovery's call that was made; the answer is what comes next, where `left` is the first place that is left.
+fn settle_recovery(
+    journal: &mut Journal,
+    power: &mut Power,
+    pending: &mut Vec<bool>,
+    recovery: Recovery,
+    left: Option<Place>,
+    made: bool,
+) -> Task
+    requires journal_room { 0 < journal.old.room }
+    requires pending_room { vec_len pending.old < vec_capacity pending.old }
+    requires few { power.old.durable + count_changes pending.old.items < 2 ^ 64 }
+    ensures entries { journal.new.entries ≡ entries_recovered made recovery journal.old.entries }
+    ensures power { power.new ≡ power_recovered made recovery power.old pending.old.items }
+    ensures pending { pending.new.items ≡ pending_recovered made recovery pending.old.items }
+    ensures task { result ≡ task_recovered made left power.new.dirty }
+{
+    if !made {
+        return Task::Reply(Reply::TreeFault);
+    }
+    note_recovery(journal, power, pending, recovery);
+    recoveries::next_task(left, power.dirty)
+}
+
+/// Notes a recovery's call that the device did.
+fn note_recovery(
+    journal: &mut Journal,
+    power: &mut Power,
+    pending: &mut Vec<bool>,
+    recovery: Recovery,
+)
+    requires journal_room { 0 < journal.old.room }
+    requires pending_room { vec_len pending.old < vec_capacity pending.old }
+    requires few { power.old.durable + count_changes pending.old.items < 2 ^ 64 }
+    ensures entries { journal.new.entries ≡ entries_recovered true recovery journal.old.entries }
+    ensures power { power.new ≡ power_recovered true recovery power.old pending.old.items }
+    ensures pending { pending.new.items ≡ pending_recovered true recovery pending.old.items }
+{
+    match recovery {
+        Recovery::List => {}
+        Recovery::Remove(_) => {
+            pending.push(false).unwrap();
+            power.dirty = true;
+        }
+        Recovery::Sync => {
+            power.durable += power::changes_among(pending.as_slice());
+            power.dirty = false;
+            pending.clear();
+            journal.push(Entry::Synced);
+        }
+    }
+}
+
+/// Takes room for one more entry and one more order.
+fn room_to_stop(journal: &mut Journal, orders: &mut Vec<Order>) -> Result<(), NoMemory>
+    ensures entries { journal.new.entries ≡ journal.old.entries }
+    ensures orders { orders.new.items ≡ orders.old.items }
+    ensures few { OnOk result (length journal.new.entries < 2 ^ 64) }
+    ensures room { OnOk result ((0 < journal.new.room) × (vec_len orders.new < vec_capacity orders.new)) }
+{
+    journal.reserve()?;
+    orders.reserve(1)?;
+    Ok(())
 }
 
 /// Notes a create's call that was made, and follows it where the device did it; the answer is what comes next.
@@ -358,23 +571,27 @@ fn settle(
     creates::next_task(create, in_the_way)
 }
 
-/// Takes room for one more entry, one more call and one more place.
+/// Takes room for one more entry, one more call, one more place and one more operation.
 fn room_to_call(
     journal: &mut Journal,
     callers: &mut Vec<Actor>,
     running: &mut SortedMap<Actor, Running>,
     places: &mut Places,
+    pending: &mut Vec<bool>,
 ) -> Result<(), NoMemory>
     ensures entries { journal.new.entries ≡ journal.old.entries }
     ensures callers { callers.new.items ≡ callers.old.items }
     ensures running { running.new.rows ≡ running.old.rows }
     ensures places { places.new.rows ≡ places.old.rows }
-    ensures room { OnOk result ((0 < journal.new.room) × (vec_len callers.new < vec_capacity callers.new) × (0 < running.new.room) × (0 < places.new.room)) }
+    ensures pending { pending.new.items ≡ pending.old.items }
+    ensures few { OnOk result (length journal.new.entries < 2 ^ 64) }
+    ensures room { OnOk result ((0 < journal.new.room) × (vec_len callers.new < vec_capacity callers.new) × (0 < running.new.room) × (0 < places.new.room) × (vec_len pending.new < vec_capacity pending.new)) }
 {
     journal.reserve()?;
     callers.reserve(1)?;
     running.reserve(1)?;
     places.reserve(1)?;
+    pending.reserve(1)?;
     Ok(())
 }
 

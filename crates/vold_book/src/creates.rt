@@ -1,19 +1,21 @@
-ghost use Rattle.std.specs.Prelude.{◌≡◌, IfOk};
-ghost use Rattle.vold_book.specs.Begin.{first_task};
+ghost use Rattle.std.specs.Prelude.{◌≡◌, ◌≤◌, ℕ, IfOk, length};
+ghost use Rattle.vold_book.specs.Begin.{first_task, recover_task};
 ghost use Rattle.vold_book.specs.Create.{call_of, next_task, entry_of};
 ghost use Rattle.vold_book.specs.Places.{places_of};
+ghost use Rattle.vold_book.specs.Turns.{is_change};
 
 use crate::calls::Call;
 use crate::places::Places;
-use crate::tasks::{Create, Stage, Task};
+use crate::power::Phase;
+use crate::tasks::{Create, Recovery, Stage, Task};
 use journal_model::{Birth, Change, Command, Entry, Reply};
 use key_directory::rehearsal;
 use std::alloc::Global;
 use tree_model::{Bytes, Class, FileName, NoMemory, Op, Place, Slot};
 
 /// What the actor of a command that began does next: its refusal where one is due, and else its first turn.
-pub fn first_task(places: &Places, command: &Command, birth: Birth) -> Task
-    ensures { result ≡ first_task (places_of places.now) command.now birth }
+pub fn first_task(phase: Phase, places: &Places, command: &Command, birth: Birth) -> Task
+    ensures { result ≡ first_task phase (places_of places.now) command.now birth }
 {
     match command {
         Command::Create { user } => {
@@ -27,17 +29,29 @@ pub fn first_task(places: &Places, command: &Command, birth: Birth) -> Task
                 })
             }
         }
-        Command::Recover => Task::Reply(Reply::Ready),
+        Command::Recover => recover_task(phase),
+    }
+}
+
+/// A recovery is refused while the machine is up, and else lists the tree first.
+fn recover_task(phase: Phase) -> Task
+    ensures { result ≡ recover_task phase }
+{
+    match phase {
+        Phase::Up => Task::Reply(Reply::Ready),
+        Phase::Down | Phase::Halted => Task::Recover(Recovery::List),
     }
 }
 
 /// The next call of a create, where `in_the_way` is the first place that has to be cleared.
 pub fn next_call(
     alloc: Global,
+    seed: &[u8],
     create: &Create,
     in_the_way: Option<Place>,
 ) -> Result<Call, NoMemory>
-    ensures { IfOk result (λ call. call ≡ call_of create.now in_the_way) }
+    requires { length seed.now ≤ 64 }
+    ensures { IfOk result (λ call. call ≡ call_of seed.now create.now in_the_way) }
 {
     let user = create.user;
     let temp = Place::Temp(user);
@@ -52,7 +66,7 @@ pub fn next_call(
             Bytes::copy(alloc, &rehearsal::VERSION)?,
         ),
         Stage::Versioned(class) => {
-            let key = rehearsal::key(alloc, class, user, create.birth)?;
+            let key = rehearsal::key(alloc, seed, class, user, create.birth)?;
             Op::Write(temp, FileName::EncryptedKey, key)
         }
         Stage::Keyed(_) | Stage::Created => return Ok(Call::Sync),
@@ -99,5 +113,15 @@ pub fn entry_of(create: &Create, number: u64) -> Option<Entry>
             },
         }),
         _ => None,
+    }
+}
+
+/// Whether the create's call makes a change.
+pub fn makes_change(create: &Create) -> bool
+    ensures { (number : ℕ) → result ≡ is_change (entry_of create.now number) }
+{
+    match create.stage {
+        Stage::Settled(Class::De) => true,
+        _ => false,
     }
 }

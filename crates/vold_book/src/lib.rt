@@ -6,6 +6,8 @@ pub mod book;
 pub mod calls;
 pub mod creates;
 pub mod places;
+pub mod power;
+pub mod recoveries;
 pub mod standings;
 pub mod tasks;
 pub mod turns;

@@ -1,5 +1,5 @@
 use journal_model::{Birth, Reply};
-use tree_model::Class;
+use tree_model::{Class, Place};
 
 /// Where a create stands: what was done last.
 #[derive(Clone, Copy, Debug, PartialEq, Eq)]
@@ -28,11 +28,24 @@ pub struct Create {
     pub stage: Stage,
 }
 
+/// A recovery on its way: the call that it makes next.
+#[derive(Clone, Copy, Debug, PartialEq, Eq)]
+pub enum Recovery {
+    /// The places of the tree are listed.
+    List,
+    /// The directory at this place, which a command left half made, is removed.
+    Remove(Place),
+    /// What the recoveries of this boot changed is made durable.
+    Sync,
+}
+
 /// What an actor's next turn does.
 #[derive(Clone, Copy, Debug, PartialEq, Eq)]
 pub enum Task {
     /// A call of the device, for a create.
     Create(Create),
+    /// A call of the device, for a recovery.
+    Recover(Recovery),
     /// This reply.
     Reply(Reply),
 }

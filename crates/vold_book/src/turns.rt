@@ -1,4 +1,4 @@
-use crate::tasks::Create;
+use crate::tasks::{Create, Recovery};
 use journal_model::Reply;
 
 /// What a turn did.
@@ -8,13 +8,17 @@ pub enum Turn {
     Went,
     /// Nothing: the actor has neither a running command nor a queue.
     Idle,
+    /// Nothing: the machine doesn't take the actor's commands now.
+    Waits,
 }
 
 /// What an actor's next turn does.
 #[derive(Clone, Copy, Debug, PartialEq, Eq)]
 pub enum Step {
     Idle,
+    Waits,
     Begin,
-    Call(u64, Create),
+    Create(u64, Create),
+    Recover(u64, Recovery),
     Reply(u64, Reply),
 }

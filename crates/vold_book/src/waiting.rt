@@ -61,6 +61,15 @@ impl Queue {
         Ok(())
     }
 
+    /// Adds a number first.
+    pub fn push_first(&mut self, number: u64) -> Result<(), NoMemory>
+        ensures pushed { OnOk result (self.new ≡ number ∷ self.old) }
+        ensures refused { OnErr result (self.new ≡ self.old) }
+    {
+        self.numbers.push_front(number)?;
+        Ok(())
+    }
+
     /// Takes the first number out, which is there.
     pub fn pop(&mut self) -> u64
         requires { self.old ≢ [] }
@@ -113,6 +122,29 @@ pub fn add(alloc: Global, waiting: &mut Waiting, actor: Actor, number: u64) -> R
     } else {
         let mut queue = Queue::new(alloc);
         queue.push(number)?;
+        waiting.insert(actor, queue)?;
+        Ok(())
+    }
+}
+
+/// Adds a number first to the actor's queue.
+pub fn add_first(
+    alloc: Global,
+    waiting: &mut Waiting,
+    actor: Actor,
+    number: u64,
+) -> Result<(), NoMemory>
+    ensures added { OnOk result (waiting_of waiting.new ≡ map.insert (waiting_of waiting.old) actor (number ∷ queue_of (waiting_of waiting.old) actor)) }
+    ensures refused { OnErr result (waiting_of waiting.new ≡ waiting_of waiting.old) }
+{
+    if waiting.contains_key(actor) {
+        let mut queue = waiting.replace(actor, Queue::new(alloc));
+        let pushed = queue.push_first(number);
+        waiting.replace(actor, queue);
+        pushed
+    } else {
+        let mut queue = Queue::new(alloc);
+        queue.push_first(number)?;
         waiting.insert(actor, queue)?;
         Ok(())
     }

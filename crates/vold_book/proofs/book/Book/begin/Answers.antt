@@ -5,6 +5,7 @@ use Rattle.std.proofs.lemmas.Option.{slice_get_read}
 use Rattle.sorted_map.proofs.Rows.{get-rows}
 use Rattle.journal_model.specs.declared.entries.Entry.TheVariants.{Began}
 use Rattle.journal_model.specs.Actor.{actor_cmp}
+use Rattle.vold_book.specs.Powered.{TakesTurn}
 use Rattle.vold_book.specs.Book.{book_state}
 use Rattle.vold_book.specs.Turns.{Begins}
 use Rattle.vold_book.proofs.Books.{queue-some, first-within, count-fits, begun-state, begins-from, begins-whole, read_copy}
@@ -24,12 +25,12 @@ overflow_add-index g c =
     omega (arith, index, few)
 
 begun : (g : Over) (c : goal.After-push g) → Begins
-    (book_state c.self.inside.tree c.self.inside.seed c.self.inside.journal.entries c.self.inside.callers.items c.self.inside.commands.items c.self.inside.waiting c.self.inside.running c.self.inside.begun c.self.inside.places)
-    (book_state c.self.inside.tree c.self.inside.seed c.push.new.self.entries c.self.inside.callers.items c.self.inside.commands.items c.take_first.new.waiting c.insert.new.self c.insert-2.new.self c.self.inside.places) c.args.actor
+    (book_state c.self.inside.tree c.self.inside.seed c.self.inside.journal.entries c.self.inside.callers.items c.self.inside.orders.items c.self.inside.commands.items c.self.inside.waiting c.self.inside.running c.self.inside.begun c.self.inside.places c.self.inside.power c.self.inside.pending.items)
+    (book_state c.self.inside.tree c.self.inside.seed c.push.new.self.entries c.self.inside.callers.items c.self.inside.orders.items c.self.inside.commands.items c.take_first.new.waiting c.insert.new.self c.insert-2.new.self c.self.inside.places c.self.inside.power c.self.inside.pending.items) c.args.actor
 begun g c =
     let within = first-within g.T.TreeDisk.disk _ c.args.actor c.first-number.result c.self.invariant c.first-number.ensures.first in
-    begun-state c.self.inside.tree c.self.inside.seed c.self.inside.journal.entries c.push.new.self.entries c.self.inside.callers.items c.self.inside.commands.items c.self.inside.waiting c.take_first.new.waiting
-    c.self.inside.running c.room_to_begin.new.running c.insert.new.self c.self.inside.begun c.room_to_begin.new.begun c.insert-2.new.self c.self.inside.places
+    begun-state c.self.inside.tree c.self.inside.seed c.self.inside.journal.entries c.self.inside.callers.items c.self.inside.orders.items c.self.inside.commands.items c.self.inside.waiting c.self.inside.running c.self.inside.begun c.self.inside.places c.self.inside.power c.self.inside.pending.items
+    c.push.new.self.entries c.take_first.new.waiting c.room_to_begin.new.running c.insert.new.self c.room_to_begin.new.begun c.insert-2.new.self
     c.args.actor c.first-number.result c.take_first.result c.unwrap_or-index.result c.in_ok-command.command c.first_task-task.result
     c.first-number.ensures.first c.take_first.ensures
     (slice_get_read c.self.inside.commands.items _ c.first-number.result c.in_ok-command.command refl within (read_copy c.self.inside.commands.items c.first-number.result _ _ c.in_ok-command.ensures c.index.ensures))
@@ -40,7 +41,7 @@ begun g c =
     (c.push.ensures.entries ∙ ap (λ es. es ++ Began c.first-number.result c.args.actor c.in_ok-command.command ∷ []) c.room_to_begin.ensures.entries)
 
 pub invariant_of-self-2 : goal.invariant_of-self-2
-invariant_of-self-2 g c = begins-whole g.T.TreeDisk.disk _ _ c.args.actor (begun g c) c.self.invariant (subst (λ b. IsNone (map.get b.running c.args.actor)) (sym c.self.view_is) c.requires.idle)
+invariant_of-self-2 g c = begins-whole g.T.TreeDisk.disk _ _ c.args.actor (begun g c) c.self.invariant (subst (λ b. IsNone (map.get b.running c.args.actor)) (sym c.self.view_is) c.requires.idle) (subst (λ b. TakesTurn b.power.phase c.args.actor) (sym c.self.view_is) c.requires.takes)
 
 pub returns-clause-begun : goal.returns-clause-begun
 returns-clause-begun g c = begins-from _ _ _ c.args.actor c.self.view_is (begun g c)
