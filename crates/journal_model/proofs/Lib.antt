@@ -1,3 +1,4 @@
 pub mod Folds
 pub mod Records
 pub mod Steps
+pub mod Streams

@@ -1,8 +1,11 @@
 pub mod Actor
 pub mod Command
 pub mod DefinedReply
+pub mod Hashes
 pub mod Log
 pub mod Machine
+pub mod Made
+pub mod MadeLaws
 pub mod RecordCode
 pub mod Users
 pub mod Written

@@ -4,12 +4,19 @@
 
 pub mod commands;
 pub mod entries;
+pub mod hashes;
 pub mod journal;
+pub mod made;
 pub mod secrets;
 pub mod user_map;
 
 pub use commands::{Actor, Command, EnqueueFault, Reply};
 pub use entries::{Birth, Change, Entry, Order};
+pub use hashes::{app_id, prefixed_hash, wrap_key};
 pub use journal::Journal;
+pub use made::{boot_seed, made_bytes, made_discardable, made_key, made_nonce};
 pub use secrets::Secret;
 pub use user_map::{UserMap, defined_reply, fold};
+
+#[cfg(test)]
+mod tests;

@@ -1,23 +1,17 @@
--- Rehearsal directories: version `0`, the raw key in the file `encrypted_key`, opened by the empty secret. The keys tell
--- whose they are.
-use Rattle.std.specs.Prelude.{ℕ, ◌==◌, cond, List, [], ◌∷◌, ◌++◌, Option, Some, None, replicate}
-use Rattle.std.specs.Int.{w32, w64, to_be_bytes}
+-- Rehearsal directories: version `0`, the raw key in the file `encrypted_key`, opened by the empty secret.
+use Rattle.std.specs.Prelude.{ℕ, ◌==◌, cond, List, [], ◌∷◌, Option, Some, None}
 use Rattle.std.specs.FinMap as map
 use Rattle.tree_model.specs.declared.files.FileName.TheVariants.{Version, EncryptedKey}
 use Rattle.tree_model.specs.declared.places.Class.{Class}
 use Rattle.tree_model.specs.declared.places.Class.TheVariants.{De, Ce}
 use Rattle.tree_model.specs.Dir.{Files}
 use Rattle.journal_model.specs.declared.entries.Birth.{Birth}
+use Rattle.journal_model.specs.Made.{key_of}
 use Rattle.key_directory.specs.StandsFor.{Meaning}
 
--- the byte that tells the class
-abbrev pub class_byte : Class → ℕ
-class_byte De = 0
-class_byte Ce = 1
-
--- a key of 64 bytes: the class, the user, the boot and the index of the birth, each the high byte first, and zeros
+-- the key that a user of this birth is given, from the script's seed
 abbrev pub rehearsal_key : List ℕ → Class → ℕ → Birth → List ℕ
-rehearsal_key seed class user birth = class_byte class ∷ [] ++ to_be_bytes w32 user ++ to_be_bytes w64 birth.boot ++ to_be_bytes w32 birth.index ++ replicate 47 0
+rehearsal_key seed class user birth = key_of seed class user birth
 
 -- the byte of the version `0`
 abbrev pub rehearsal_version : List ℕ
@@ -34,5 +28,6 @@ abbrev pub rehearsal_opens : Files → List ℕ → Option (List ℕ)
 rehearsal_opens files [] = if_version (map.get files Version) (map.get files EncryptedKey)
 rehearsal_opens files (byte ∷ bytes) = None
 
+-- the meaning of rehearsal directories under a script's seed
 abbrev pub rehearsal : List ℕ → Meaning
 rehearsal seed = record { opens = rehearsal_opens; de_key = rehearsal_key seed De; ce_key = rehearsal_key seed Ce }
