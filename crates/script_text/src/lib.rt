@@ -3,6 +3,8 @@
 #![tactic(auto)]
 
 mod appending;
+pub mod byte_words;
+mod fills;
 pub mod journal_lines;
 pub mod numbers;
 mod reading;
@@ -10,6 +12,7 @@ pub mod script;
 pub mod status;
 pub mod tree_lines;
 
+pub use byte_words::bytes_of;
 pub use journal_lines::print_journal;
 pub use numbers::number_of;
 pub use script::{Line, Script, one_reading, read_script};
