@@ -71,11 +71,7 @@ pub fn push_actor(alloc: Global, out: &mut Vec<u8>, actor: Actor) -> Result<(), 
 }
 
 /// Adds a space and a command.
-fn push_command_words(
-    alloc: Global,
-    out: &mut Vec<u8>,
-    command: &Command,
-) -> Result<(), NoMemory>
+fn push_command_words(alloc: Global, out: &mut Vec<u8>, command: &Command) -> Result<(), NoMemory>
     ensures { OnOk result (out.new.items ≡ out.old.items ++ spaced (command_words command.now)) }
 {
     push_text(out, b" ")?;
