@@ -1,5 +1,5 @@
 ghost use Rattle.std.specs.Prelude.{◌≡◌, ◌↔◌, IsTrue, IfOk, IfSome, IfNone, option_copied};
-ghost use Rattle.script_text.specs.Script.{may_follow as allows, seed_of, IsScript, IsNoScript, OneReading};
+ghost use Rattle.script_text.specs.Script.{may_follow as allows, seed_of, AreShort, IsPlaced, IsScript, IsNoScript, OneReading};
 
 use crate::reading::next_line;
 use journal_model::{Actor, Command};
@@ -33,10 +33,13 @@ pub struct Script {
 impl Model for Script {
     ghost use Rattle.std.specs.Prelude.{List};
     ghost use Rattle.script_text.specs.declared.script.Line.{Line};
+    ghost use Rattle.script_text.specs.Script.{IsPlaced};
 
     ghost Value = { List Line };
 
     ghost view = { λ script. script.lines.items };
+
+    ghost invariant = { λ script. IsPlaced script.lines.items };
 }
 
 impl Script {
@@ -54,14 +57,16 @@ impl Script {
 
     /// The lines, in order.
     pub fn lines(&self) -> &[Line]
-        ensures { result.now ≡ self.now }
+        ensures same { result.now ≡ self.now }
+        ensures placed { IsPlaced self.now }
     {
         self.lines.as_slice()
     }
 
     /// The seed, which is empty where no line gives one.
     pub fn seed(&self) -> &[u8]
-        ensures { result.now ≡ seed_of self.now }
+        ensures same { result.now ≡ seed_of self.now }
+        ensures short { AreShort result.now }
     {
         match self.lines.as_slice().first() {
             Some(Line::Seed(bytes)) => bytes.as_slice(),
