@@ -1,8 +1,14 @@
--- How a text falls into lines and words, and when its front is no line.
-use Rattle.std.specs.Prelude.{◌≡◌, ◌≢◌, ℕ, List, [], ◌∷◌, ◌++◌, length, slice_index, Option, Some, None}
+-- How a text falls into lines and words, and what is read from it.
+use Rattle.std.specs.Prelude.{◌≡◌, ◌≢◌, ℕ, ◌<◌, ◌^◌, if◌then◌else◌, nat_eq, List, [], ◌∷◌, ◌++◌, length, slice_index, Option, Some, None}
 use Rattle.std.specs.List.{AllByRecursion}
 use Rattle.script_text.specs.declared.script.Line.{Line}
 use Rattle.script_text.specs.Script.{IsLine, spelling}
+use Rattle.script_text.specs.Words.{decimal}
+
+-- what was read: a value that may come and whose text this is, or None where this is the text of no such value
+abbrev pub Reads : {A T : Type 0} → (A → Type 0) → (A → T) → T → Option A → Type 0
+Reads {A} MayCome text_of_value text None = (value : A) → MayCome value → text ≢ text_of_value value
+Reads MayCome text_of_value text (Some value) = MayCome value × (text ≡ text_of_value value)
 
 -- none of the bytes is this one
 abbrev pub Lacks : ℕ → List ℕ → Type 0
@@ -13,18 +19,32 @@ pub record IsSplit (byte : ℕ) (bytes front back : List ℕ) : Type 0 where
   pub whole : bytes ≡ front ++ byte ∷ back
   pub first : Lacks byte front
 
--- what follows a word: nothing, or a space and further words
-abbrev pub after_word : Option (List ℕ) → List ℕ
-after_word None = []
-after_word (Some others) = 32 ∷ others
+-- a byte in front of the first word
+abbrev pub in_front : ℕ → List (List ℕ) → List (List ℕ)
+in_front byte [] = (byte ∷ []) ∷ []
+in_front byte (word ∷ words) = (byte ∷ word) ∷ words
+
+-- the words of a text, with one space between them
+abbrev pub words_in : List ℕ → List (List ℕ)
+words_in [] = [] ∷ []
+words_in (byte ∷ bytes) = if nat_eq byte 32 then [] ∷ words_in bytes else in_front byte (words_in bytes)
+
+-- the words that follow a word, which are none at the end of a line
+abbrev pub words_after : Option (List ℕ) → List (List ℕ)
+words_after None = []
+words_after (Some text) = words_in text
+
+-- a number as the last word
+abbrev pub number_words : ℕ → List (List ℕ)
+number_words number = decimal number ∷ []
 
 -- a number's text begins with no sign, and with a zero only where that is the whole text
 abbrev pub IsPlain : List ℕ → Type 0
 IsPlain word = (slice_index word 0 ≢ 43) × (slice_index word 0 ≡ 48 → length word ≡ 1)
 
--- the text is of no line
-abbrev pub IsNoLine : List ℕ → Type 0
-IsNoLine text = (line : Line) → IsLine line → text ≢ spelling line
+-- a number of 32 bits
+abbrev pub IsSmall : ℕ → Type 0
+IsSmall number = number < 2 ^ 32
 
 -- the text begins with no line and its line feed
 abbrev pub BeginsNoLine : List ℕ → Type 0

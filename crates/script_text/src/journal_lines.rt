@@ -1,5 +1,5 @@
 ghost use Rattle.std.specs.Prelude.{◌≡◌, [], ◌∷◌, ◌++◌, OnOk, IfOk};
-ghost use Rattle.script_text.specs.Words.{spaced};
+ghost use Rattle.script_text.specs.Words.{spaced, joined};
 ghost use Rattle.script_text.specs.Journal.{actor_word, command_words, change_words, reply_words, entry_line, journal_text};
 
 use crate::appending::{push_line_feed, push_number, push_text, push_word};
@@ -33,7 +33,7 @@ fn push_entry(alloc: Global, out: &mut Vec<u8>, entry: &Entry) -> Result<(), NoM
             push_text(out, b"began")?;
             push_number(alloc, out, *number)?;
             push_actor(alloc, out, *actor)?;
-            push_command(alloc, out, command)?;
+            push_command_words(alloc, out, command)?;
         }
         Entry::Changed { number, change } => {
             push_text(out, b"changed")?;
@@ -59,7 +59,8 @@ fn push_entry(alloc: Global, out: &mut Vec<u8>, entry: &Entry) -> Result<(), NoM
     push_line_feed(out)
 }
 
-fn push_actor(alloc: Global, out: &mut Vec<u8>, actor: Actor) -> Result<(), NoMemory>
+/// Adds a space and an actor.
+pub fn push_actor(alloc: Global, out: &mut Vec<u8>, actor: Actor) -> Result<(), NoMemory>
     ensures { OnOk result (out.new.items ≡ out.old.items ++ 32 ∷ actor_word actor) }
 {
     match actor {
@@ -69,15 +70,24 @@ fn push_actor(alloc: Global, out: &mut Vec<u8>, actor: Actor) -> Result<(), NoMe
     }
 }
 
-fn push_command(alloc: Global, out: &mut Vec<u8>, command: &Command) -> Result<(), NoMemory>
+/// Adds a space and a command.
+fn push_command_words(alloc: Global, out: &mut Vec<u8>, command: &Command) -> Result<(), NoMemory>
     ensures { OnOk result (out.new.items ≡ out.old.items ++ spaced (command_words command.now)) }
+{
+    push_text(out, b" ")?;
+    push_command(alloc, out, command)
+}
+
+/// Adds a command.
+pub fn push_command(alloc: Global, out: &mut Vec<u8>, command: &Command) -> Result<(), NoMemory>
+    ensures { OnOk result (out.new.items ≡ out.old.items ++ joined (command_words command.now)) }
 {
     match command {
         Command::Create { user } => {
-            push_word(out, b"create")?;
+            push_text(out, b"create")?;
             push_number(alloc, out, u64::from(*user))
         }
-        Command::Recover => push_word(out, b"recover"),
+        Command::Recover => push_text(out, b"recover"),
     }
 }
 

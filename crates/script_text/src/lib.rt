@@ -3,16 +3,21 @@
 #![tactic(auto)]
 
 mod appending;
+pub mod byte_words;
+mod fills;
 pub mod journal_lines;
 pub mod numbers;
 mod reading;
 pub mod script;
+pub mod script_lines;
 pub mod status;
 pub mod tree_lines;
 
+pub use byte_words::bytes_of;
 pub use journal_lines::print_journal;
 pub use numbers::number_of;
 pub use script::{Line, Script, one_reading, read_script};
+pub use script_lines::print_script;
 pub use status::Status;
 pub use tree_lines::print_tree;
 

@@ -1,8 +1,10 @@
-use crate::{Line, Script, Status, number_of, print_journal, print_tree, read_script};
+use crate::{
+    Line, Script, Status, bytes_of, number_of, print_journal, print_script, print_tree, read_script,
+};
 use journal_model::{Actor, Birth, Change, Command, Entry, Reply};
 use std::alloc::Global;
 use std::test::Fail;
-use tree_model::{Bytes, Dir, FileName, NoMemory, Place, Slot};
+use tree_model::{Bytes, Cut, Dir, FileName, NoMemory, Place, Slot};
 
 const CREATED_JOURNAL: &[u8] =
     b"journal 6\nbegan 0 10 create 10\nsynced\nsynced\nchanged 0 create 10 0 0\nsynced\nreplied 0 ok\n";
@@ -15,6 +17,18 @@ const EVERY_ENTRY: &[u8] =
 
 const EVERY_NAME: &[u8] =
     b"later 4 checkpoint 3\ndir de/0\nfile version 1 30\nfile encrypted_key 2 00ff\nfile keymaster_key_blob 1 0a\nfile keymaster_key_blob_upgraded 1 0b\nfile keymaster_key_blob_new 1 0c\nfile secdiscardable 1 0d\nfile stretching 0 -\nfile salt 1 0f\ndir ce/7/current\ndir ce/7/cx0000000012\ndir tmp/4294967295\n";
+
+/// The most fills, the first with the most bytes.
+const FULL_STOP: &[u8] =
+    b"stop 0 0a0a0a0a0a0a0a0a0a0a0a0a0a0a0a0a0a0a0a0a0a0a0a0a0a0a0a0a0a0a0a0a0a0a0a0a0a0a0a0a0a0a0a0a0a0a0a0a0a0a0a0a0a0a0a0a0a0a0a0a0a0a0a0a = = = = = = = = = = = = = = = = = = = = = = = = = = = = = = =\n";
+
+/// A fill with 65 bytes.
+const LONG_FILL: &[u8] =
+    b"stop 0 0a0a0a0a0a0a0a0a0a0a0a0a0a0a0a0a0a0a0a0a0a0a0a0a0a0a0a0a0a0a0a0a0a0a0a0a0a0a0a0a0a0a0a0a0a0a0a0a0a0a0a0a0a0a0a0a0a0a0a0a0a0a0a0a0a\n";
+
+/// A stop with 33 fills.
+const MANY_FILLS: &[u8] =
+    b"stop 0 = = = = = = = = = = = = = = = = = = = = = = = = = = = = = = = = =\n";
 
 #[test]
 fn prints_a_created_user(rt: HostRuntime) -> Result<(), Fail> {
@@ -129,34 +143,104 @@ fn prints_every_name(rt: HostRuntime) -> Result<(), Fail> {
 }
 
 #[test]
-fn reads_scripts(rt: HostRuntime) -> Result<(), Fail> {
-    let texts: [(&[u8], Option<usize>); 16] = [
-        (b"", Some(0)),
-        (b"all\n", Some(1)),
-        (b"create 10\nall\n", Some(2)),
-        (b"create 0\ncreate 4294967295\nall\n", Some(3)),
-        (b"create 010\n", None),
-        (b"create +1\n", None),
-        (b"create  10\n", None),
-        (b"create 4294967296\n", None),
-        (b"CREATE 10\n", None),
-        (b"make 10\n", None),
-        (b"create 10", None),
-        (b"\n", None),
-        (b"create\n", None),
-        (b"create 10 11\n", None),
-        (b"all x\n", None),
-        (b" all\n", None),
+fn prints_scripts_back(rt: HostRuntime) -> Result<(), Fail> {
+    let texts: [&[u8]; 9] = [
+        b"",
+        b"create 10\nall\n",
+        b"create 10\nturn 10 6\nstop 1\nrestart 1\nall\n",
+        b"create 10\nturn 10 4\nstop 3 = ff\n",
+        b"create 10\nturn 10 11\nstop 1\nrestart 1\nall\n",
+        b"create 10\nturn 10 11\nstop 0\nrestart 1\nall\n",
+        b"seed -\ncreate 0\ncreate 4294967295\n",
+        b"seed 00ff\nturn boot 1\nturn 0 4096\nstop 4294967295 - = 0a\nrestart 1\nstop 0\n",
+        FULL_STOP,
     ];
-    for (text, want) in texts {
-        let script = read_script(rt.alloc(), text)?;
-        let count = script.as_ref().map(|script| script.lines().len());
-        assert_eq!(rt; count, want, "at {text:?}");
+    for text in texts {
+        assert!(rt; is_printed_back(rt.alloc(), text)?, "at {text:?}");
     }
-    let script = read_script(rt.alloc(), b"create 10\nall\n")?;
+    Ok(())
+}
+
+#[test]
+fn refuses_scripts(rt: HostRuntime) -> Result<(), Fail> {
+    let texts: [&[u8]; 30] = [
+        b"create 010\n",
+        b"create +1\n",
+        b"create  10\n",
+        b"create 4294967296\n",
+        b"CREATE 10\n",
+        b"make 10\n",
+        b"unlock..\n",
+        b"recover\n",
+        b"create 10",
+        b"\n",
+        b"create\n",
+        b"create 10 11\n",
+        b"all x\n",
+        b"all \n",
+        b" all\n",
+        b"restart 1\n",
+        b"all\nrestart 1\n",
+        b"stop 0\nall\n",
+        b"stop 0\nstop 0\n",
+        b"stop 0\nrestart 2\n",
+        b"turn 10 0\n",
+        b"turn 10 4097\n",
+        b"turn cp 1\n",
+        b"stop\n",
+        b"stop 0 AB\n",
+        b"stop 0 a\n",
+        b"seed\n",
+        b"all\nseed 00\n",
+        LONG_FILL,
+        MANY_FILLS,
+    ];
+    for text in texts {
+        assert!(rt; read_script(rt.alloc(), text)?.is_none(), "at {text:?}");
+    }
+    Ok(())
+}
+
+#[test]
+fn reads_lines(rt: HostRuntime) -> Result<(), Fail> {
+    let text = b"seed 00ff\ncreate 10\nturn boot 2\nall\nstop 3 =\nrestart 1\n";
+    let script = read_script(rt.alloc(), text)?;
+    let seed = script.as_ref().map(Script::seed).unwrap_or(&[]);
+    assert_eq!(rt; seed, [0, 255].as_slice());
     let lines = script.as_ref().map(Script::lines).unwrap_or(&[]);
-    assert!(rt; matches!(lines.first(), Some(Line::Do(Command::Create { user: 10 }))));
-    assert!(rt; matches!(lines.last(), Some(Line::All)));
+    assert!(rt; matches!(lines.get(1), Some(Line::Do(Command::Create { user: 10 }))));
+    assert!(rt; matches!(lines.get(2), Some(Line::Turns(Actor::Boot, 2))));
+    assert!(rt; matches!(lines.get(3), Some(Line::All)));
+    assert!(rt; matches!(lines.get(4), Some(Line::Stop(Cut { keep: 3, .. }))));
+    assert!(rt; matches!(lines.get(5), Some(Line::Restart(1))));
+    Ok(())
+}
+
+/// Whether the text is of a script that prints as this text.
+fn is_printed_back(alloc: Global, text: &[u8]) -> Result<bool, NoMemory> {
+    let Some(script) = read_script(alloc, text)? else {
+        return Ok(false);
+    };
+    let printed = print_script(alloc, &script)?;
+    Ok(printed.as_slice() == text)
+}
+
+#[test]
+fn reads_bytes(rt: HostRuntime) -> Result<(), Fail> {
+    let words: [(&[u8], Option<&[u8]>); 8] = [
+        (b"-", Some(&[])),
+        (b"00ff", Some(&[0, 255])),
+        (b"1a2b", Some(&[26, 43])),
+        (b"AB", None),
+        (b"a", None),
+        (b"", None),
+        (b"0g", None),
+        (b"--", None),
+    ];
+    for (word, want) in words {
+        let bytes = bytes_of(rt.alloc(), word)?;
+        assert_eq!(rt; bytes.as_ref().map(Bytes::as_slice), want, "at {word:?}");
+    }
     Ok(())
 }
 

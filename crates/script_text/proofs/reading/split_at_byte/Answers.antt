@@ -1,4 +1,4 @@
-use Rattle.script_text.proofs.Readings.{cut_at}
+use Rattle.script_text.proofs.Splits.{cut_at}
 use Rattle.script_text.proofs.reading.split_at_byte.Goals as goal
 
 pub returns-then-b-byte : goal.returns-then-b-byte
