@@ -1,0 +1,4 @@
+pub mod Dirs
+pub mod Done
+pub mod Turned
+pub mod Words

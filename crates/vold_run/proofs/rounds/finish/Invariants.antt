@@ -1,0 +1,12 @@
+use Rattle.std.proofs.Common.{◌≡◌}
+use Rattle.vold_book.specs.Book.{IsWhole, turns_left}
+use Rattle.vold_run.proofs.rounds.finish.Given as goal
+
+abbrev pub invariant-loop-first : goal.invariant-loop-first
+invariant-loop-first g l = record {
+  commands : l.book.commands ≡ l.fn.book.commands;
+  whole : IsWhole g.T.TreeDisk.disk l.book;
+}
+
+abbrev pub decreases-loop-first : goal.decreases-loop-first
+decreases-loop-first g l = turns_left g.T.TreeDisk.disk l.book
