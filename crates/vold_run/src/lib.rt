@@ -8,3 +8,6 @@ mod rounds;
 mod runs;
 
 pub use runs::run;
+
+#[cfg(test)]
+mod tests;
