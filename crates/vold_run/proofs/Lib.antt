@@ -2,3 +2,4 @@ pub mod Dirs
 pub mod Done
 pub mod Turned
 pub mod Words
+pub mod Work

@@ -1,4 +1,5 @@
 pub mod Ends
+pub mod Fits
 pub mod Input
 pub mod Lines
 pub mod Rounds
