@@ -1,6 +1,6 @@
 -- What a whole Book's actors run and what waits for them is what the journal and the given commands tell, and so is each turn.
-use Rattle.std.proofs.Common.{◌≡◌, ◌≢◌, ◌⊎◌, inl, inr, ℕ, ◌+◌, ◌<◌, ◌≤◌, Bool, true, false, List, [], ◌∷◌, ◌++◌, length, refl, sym, ap, ◌∙◌, subst, arith}
-use Rattle.std.specs.Prelude.{Option, Some, None, IsSome, IsNone, IfSome, IsSomeAnd, Contains, slice_get}
+use Rattle.std.proofs.Common.{◌≡◌, ◌⊎◌, inl, inr, ℕ, ◌+◌, ◌≤◌, Bool, true, false, List, [], ◌∷◌, ◌++◌, refl, sym, ap, ◌∙◌, subst, arith}
+use Rattle.std.specs.Prelude.{Option, Some, None, IsSome, IfSome, IsSomeAnd, Contains, slice_get}
 use Rattle.std.specs.FinMap as map
 use Rattle.std.proofs.lemmas.List.{append-nil}
 use Rattle.std.proofs.lemmas.List.Elements.{Contains-push_cases, Contains-append_cases}
@@ -10,13 +10,9 @@ use Rattle.journal_model.specs.declared.commands.Actor.{Actor}
 use Rattle.journal_model.specs.declared.commands.Command.{Command}
 use Rattle.journal_model.specs.declared.entries.Birth.{Birth}
 use Rattle.journal_model.specs.declared.entries.Entry.{Entry}
-use Rattle.journal_model.specs.declared.entries.Entry.TheVariants.{Synced}
 use Rattle.journal_model.specs.Command.{actor_of}
-use Rattle.journal_model.specs.Machine.{Running as Began, machine_after}
+use Rattle.journal_model.specs.Machine.{machine_after}
 use Rattle.tree_model.specs.declared.places.Class.TheVariants.{De as ForDe, Ce as ForCe}
-use Rattle.vold_book.specs.declared.turns.Turn.{Turn}
-use Rattle.vold_book.specs.declared.turns.Turn.TheVariants.{Went}
-use Rattle.vold_book.specs.declared.tasks.Create.{Create}
 use Rattle.vold_book.specs.declared.tasks.Stage.{Stage}
 use Rattle.vold_book.specs.declared.tasks.Stage.TheVariants.{Clearing, Made, Versioned, Keyed, Settled, Renamed, Created}
 use Rattle.vold_book.specs.declared.tasks.Running.{Running}
@@ -24,12 +20,12 @@ use Rattle.vold_book.specs.declared.tasks.Task.{Task}
 use Rattle.vold_book.specs.declared.tasks.Task.TheVariants.{Create as Creating, Reply as Replying}
 use Rattle.vold_book.specs.Book.{BookState, IsWhole}
 use Rattle.vold_book.specs.Busy.{IsBusy, IsNextBusy}
-use Rattle.vold_book.specs.Create.{entry_at, entry_of, with_entry}
+use Rattle.vold_book.specs.Create.{entry_at, entry_of}
 use Rattle.vold_book.specs.TaskStands.{TaskStands}
 use Rattle.vold_book.specs.Numbers.{IsQueue, Rises, floor_of}
-use Rattle.vold_book.specs.Turns.{Begins, Calls, Goes, TurnsFrom, TaskTurns, entries_after}
+use Rattle.vold_book.specs.Turns.{Begins, Goes, TurnsFrom, TaskTurns, entries_after}
 use Rattle.vold_run.specs.Rounds.{NothingLeft}
-use Rattle.vold_run.specs.Fits.{History, history_of, Waits, Runs, HasWork, NoWork, IsNextAtWork, NoneAtWork, BeginsNext, IsNoted, CallsOnce, RepliesOnce, TurnFits}
+use Rattle.vold_run.specs.Fits.{history_of, Waits, Runs, HasWork, NoWork, IsNextAtWork, NoneAtWork, BeginsNext, IsNoted, CallsOnce, RepliesOnce, TurnFits}
 
 there : {A : Type 0} (found : Option A) (P : A → Type 0) → IsSomeAnd found P → (a : A) × (found ≡ Some a) × P a
 there None P h = absurd h
@@ -96,11 +92,13 @@ module _ {D : Type 0} (disk : D → Disk) (book : BookState D) (whole : IsWhole 
   queue-waits : (actor : Actor) (number : ℕ) (numbers : List ℕ) → map.get book.waiting actor ≡ Some (number ∷ numbers) → Waits (history_of book) actor number
   queue-waits actor number numbers at =
       let rises = (queue-is actor (number ∷ numbers) at).rises in
-      let given = there (slice_get book.commands number) (λ command. actor_of command ≡ actor) rises.1 in
-      (rises.1, λ began.
-          let below = whole.parts.numbers.below number given.0 began given.1 in
-          let low : floor_of (actor_of given.0) book.entries ≤ number = subst (λ a. floor_of a book.entries ≤ number) (sym given.2) rises.0 in
-          omega (arith, below, low))
+      let given = there (slice_get book.commands number) (λ command. actor_of command ≡ actor) rises.1 in (
+        rises.1,
+        λ began.
+            let below = whole.parts.numbers.below number given.0 began given.1 in
+            let low : floor_of (actor_of given.0) book.entries ≤ number = subst (λ a. floor_of a book.entries ≤ number) (sym given.2) rises.0 in
+            omega (arith, below, low),
+      )
 
   queue-works : (actor : Actor) (numbers : List ℕ) → map.get book.waiting actor ≡ Some numbers → HasWork (history_of book) actor
   queue-works actor [] at = absurd ((queue-is actor [] at).some refl)

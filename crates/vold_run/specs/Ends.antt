@@ -11,6 +11,7 @@ use Rattle.script_text.specs.Status.{message_of}
 use Rattle.vold_book.specs.Book.{BookState}
 use Rattle.vold_book.specs.Numbers.{AllAsGiven}
 use Rattle.vold_book.specs.Stands.{IsLooked}
+use Rattle.vold_run.specs.Fits.{LinesFit, history_of, nothing}
 use Rattle.vold_run.specs.Input.{IsCause, ScriptCame}
 use Rattle.vold_run.specs.Lines.{commands_of, EndsIdle}
 use Rattle.vold_run.specs.Shown.{Shows}
@@ -24,6 +25,8 @@ pub record IsDone {D : Type 0} (disk : D → Disk) (counts : D → Counts) (line
   -- the numbered commands are those of the lines, in order, and what began with a number is the command of that number
   pub commands : book.commands ≡ commands_of lines
   pub began : AllAsGiven (commands_of lines) book.entries
+  -- who moved in which line
+  pub fits : LinesFit lines nothing (history_of book)
   pub idle : EndsIdle lines book
   -- the Book as it was before the last looks at its device
   pub worked : BookState D

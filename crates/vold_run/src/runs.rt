@@ -6,6 +6,7 @@ ghost use Rattle.script_text.specs.Script.{most_lines};
 ghost use Rattle.script_text.specs.Status.{message_of};
 ghost use Rattle.vold_io.specs.Counted.{Rose};
 ghost use Rattle.vold_book.specs.Book.{IsWhole};
+ghost use Rattle.vold_run.specs.Fits.{history_of, nothing};
 ghost use Rattle.vold_run.specs.Input.{IsAccepted, IsRefused, RefusedCame, SomeScriptCame};
 ghost use Rattle.vold_run.specs.Ends.{HasMessage, InPlaceOf, IsDone, LinesEnd, RunPrints, Takes, WorkEnds, WritesFront};
 
@@ -90,7 +91,7 @@ fn work<K: Sink, T: TreeDisk>(
     sink: &mut K,
 ) -> Status
     requires whole { IsWhole T.disk book.old }
-    requires fresh { book.old.commands ≡ [] }
+    requires fresh { history_of book.old ≡ nothing }
     requires few { length lines.now ≤ most_lines }
     ensures ended { WorkEnds T.disk T.counts lines.now book.new (K.taken sink.old) (K.taken sink.new) result }
     ensures faults { result ≡ Status.WriteFault → Rose (K.fault_count sink.old) (K.fault_count sink.new) }
@@ -106,7 +107,7 @@ fn work<K: Sink, T: TreeDisk>(
 /// Does the lines on a new Book, and answers the text that shows it.
 fn done<T: TreeDisk>(alloc: Global, book: &mut Book<T>, lines: &[Line]) -> Result<Bytes, NoMemory>
     requires whole { IsWhole T.disk book.old }
-    requires fresh { book.old.commands ≡ [] }
+    requires fresh { history_of book.old ≡ nothing }
     requires few { length lines.now ≤ most_lines }
     ensures done { IfOk result (IsDone T.disk T.counts lines.now book.new) }
     ensures whole { IsWhole T.disk book.new }
