@@ -61,7 +61,7 @@ module _ {K X : Type 0} {R : K → K → Ordering} (total : IsTotalOrder R) wher
       ∙ find-at es i d (right_holds (below_all R e.0 es) (is_sorted R es) sorted) (omega arith)
 
   -- the i-th key of a finite map and what the map has there are its i-th entry
-  entry-at : (m : finite.FinMap R X) (keys : List K) (i : ℕ) (k : K) (x : X) → keys ≡ finite.keys m → i < length keys → Some x ≡ finite.get m (get_or keys i k) → (get_or keys i k, x) ≡ get_or (finite.entries m) i (k, x)
+  pub entry-at : (m : finite.FinMap R X) (keys : List K) (i : ℕ) (k : K) (x : X) → keys ≡ finite.keys m → i < length keys → Some x ≡ finite.get m (get_or keys i k) → (get_or keys i k, x) ≡ get_or (finite.entries m) i (k, x)
   entry-at m keys i k x listed within found =
       let es = finite.entries m in
       let many : i < length es = subst (λ n. i < n) (ap length listed ∙ length-map es (λ e. e.0)) within in

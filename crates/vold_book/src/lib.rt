@@ -8,11 +8,13 @@ pub mod creates;
 pub mod places;
 pub mod power;
 pub mod recoveries;
+pub mod run_end;
 pub mod standings;
 pub mod tasks;
 pub mod turns;
 pub mod waiting;
 
 pub use book::{Book, MAX_COMMANDS};
+pub use run_end::RunEnd;
 pub use standings::Standing;
 pub use turns::Turn;

@@ -1,0 +1,10 @@
+use crate::book::Book;
+use script_text::Status;
+use tree_model::TreeDisk;
+
+/// How a run ended. The Book is there where a script was read whole and the Book was opened.
+#[derive(Drop)]
+pub struct RunEnd<T: TreeDisk> {
+    pub status: Status,
+    pub book: Option<Book<T>>,
+}

@@ -1,0 +1,5 @@
+pub mod Dirs
+pub mod Done
+pub mod Turned
+pub mod Words
+pub mod Work

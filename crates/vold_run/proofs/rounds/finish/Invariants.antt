@@ -1,0 +1,14 @@
+use Rattle.std.proofs.Common.{◌≡◌, ℕ}
+use Rattle.vold_book.specs.Book.{IsWhole, turns_left}
+use Rattle.vold_run.specs.Fits.{RoundsFit, history_of}
+use Rattle.vold_run.proofs.rounds.finish.Given as goal
+
+abbrev pub invariant-loop-first : goal.invariant-loop-first
+invariant-loop-first g l = record {
+  commands : l.book.commands ≡ l.fn.book.commands;
+  rounds : (count : ℕ) × RoundsFit count (history_of l.fn.book) (history_of l.book);
+  whole : IsWhole g.T.TreeDisk.disk l.book;
+}
+
+abbrev pub decreases-loop-first : goal.decreases-loop-first
+decreases-loop-first g l = turns_left g.T.TreeDisk.disk l.book

@@ -1,0 +1,136 @@
+ghost use Rattle.std.specs.Prelude.{◌≡◌, ◌≢◌, ◌≤◌, ◌⊎◌, [], IfOk, IfSome, IsNone, IsSome, IsSomeAnd, map, length};
+ghost use Rattle.std.specs.FinMap as finite;
+ghost use Rattle.std.specs.Io.KnownBytes.{append_known};
+ghost use Rattle.std.specs.String.{string_bytes};
+ghost use Rattle.script_text.specs.Script.{most_lines};
+ghost use Rattle.script_text.specs.Status.{message_of};
+ghost use Rattle.vold_io.specs.Counted.{Rose};
+ghost use Rattle.vold_book.specs.Book.{IsWhole};
+ghost use Rattle.vold_run.specs.Fits.{history_of, nothing};
+ghost use Rattle.vold_run.specs.Input.{IsAccepted, IsRefused, RefusedCame, SomeScriptCame};
+ghost use Rattle.vold_run.specs.Ends.{HasMessage, InPlaceOf, IsDone, LinesEnd, RunPrints, Takes, WorkEnds, WritesFront};
+
+use crate::{input, lines, output};
+use script_text::{Line, Status};
+use std::alloc::Global;
+use tree_model::{Bytes, NoMemory, TreeDisk};
+use vold_book::{Book, RunEnd};
+use vold_io::{Sink, SinkFault, Source, write_all};
+
+/// Reads a script from the source, does its lines on a Book over the tree, and writes the Book's journal and tree to the
+/// sink. The words are those after the program's name; `run` alone is accepted. Where there is no script to do, the
+/// status's message is written and no Book is handed back.
+pub fn run<S: Source, K: Sink, T: TreeDisk>(
+    alloc: Global,
+    words: &[String],
+    source: &mut S,
+    sink: &mut K,
+    tree: T,
+) -> RunEnd<T>
+    requires { T.disk tree ≡ record { stable = finite.empty; pending = [] } }
+    ensures usage { result.status ≡ Status.Usage → ¬ (IsAccepted (map string_bytes words.now)) }
+    ensures other_words { ¬ (IsAccepted (map string_bytes words.now)) → InPlaceOf Status.Usage result.status }
+    ensures unread { ¬ (IsAccepted (map string_bytes words.now)) → source.new ≡ source.old }
+    ensures read_fault { result.status ≡ Status.ReadFault → Rose (S.fault_count source.old) (S.fault_count source.new) }
+    ensures bad_script { result.status ≡ Status.BadScript → (S.fault_count source.new ≡ S.fault_count source.old) × RefusedCame (S.rest source.old) (S.rest source.new) }
+    ensures refused { IsAccepted (map string_bytes words.now) → ¬ (Rose (S.fault_count source.old) (S.fault_count source.new)) → IfSome (S.rest source.old) (λ told. IsRefused told → InPlaceOf Status.BadScript result.status) }
+    ensures write_fault { result.status ≡ Status.WriteFault → Rose (K.fault_count sink.old) (K.fault_count sink.new) }
+    ensures done { result.status ≡ Status.Done → IsSomeAnd result.book (RunPrints T.disk T.counts (S.rest source.old) (S.rest source.new) (K.taken sink.old) (K.taken sink.new)) }
+    ensures message { HasMessage result.status → (K.taken sink.new ≡ append_known (K.taken sink.old) (message_of result.status)) × IsNone result.book }
+    ensures front { result.status ≡ Status.WriteFault → WritesFront T.disk T.counts (map string_bytes words.now) (S.rest source.old) (S.rest source.new) (S.fault_count source.old) (S.fault_count source.new) (K.taken sink.old) (K.taken sink.new) result.book }
+    ensures no_memory { result.status ≡ Status.NoMemory → (K.taken sink.new ≡ K.taken sink.old) ⊎ (WritesFront T.disk T.counts (map string_bytes words.now) (S.rest source.old) (S.rest source.new) (S.fault_count source.old) (S.fault_count source.new) (K.taken sink.old) (K.taken sink.new) result.book) }
+    ensures book { IfSome result.book (λ _. IsAccepted (map string_bytes words.now) × SomeScriptCame (S.rest source.old) (S.rest source.new) × InPlaceOf Status.Done result.status) }
+    ensures read { IsAccepted (map string_bytes words.now) → ¬ (Rose (S.fault_count source.old) (S.fault_count source.new)) → IfSome (S.rest source.old) (λ told. ¬ (IsRefused told) → IsSome result.book ⊎ (result.status ≡ Status.NoMemory)) }
+    ensures complete { IsAccepted (map string_bytes words.now) → S.never_fails source.old → K.never_fails sink.old → IfSome (S.rest source.old) (λ told. ¬ (IsRefused told) → (result.status ≡ Status.Done) ⊎ (result.status ≡ Status.NoMemory)) }
+    ensures whole { IfSome result.book (IsWhole T.disk) }
+{
+    match input::script_of(alloc, words, source) {
+        Ok(script) => run_lines(alloc, script.lines(), sink, tree),
+        Err(status) => RunEnd {
+            status: write(sink, status.message(), status),
+            book: None,
+        },
+    }
+}
+
+/// Does the lines on a new Book over the tree, and writes what shows it.
+fn run_lines<K: Sink, T: TreeDisk>(
+    alloc: Global,
+    lines: &[Line],
+    sink: &mut K,
+    tree: T,
+) -> RunEnd<T>
+    requires empty { T.disk tree ≡ record { stable = finite.empty; pending = [] } }
+    requires few { length lines.now ≤ most_lines }
+    ensures ended { LinesEnd T.disk T.counts lines.now (K.taken sink.old) (K.taken sink.new) result.status result.book }
+    ensures faults { result.status ≡ Status.WriteFault → Rose (K.fault_count sink.old) (K.fault_count sink.new) }
+    ensures steady { K.never_fails sink.old → result.status ≢ Status.WriteFault }
+    ensures whole { IfSome result.book (IsWhole T.disk) }
+{
+    let seed = Bytes::from_vec(Vec::new(alloc));
+    match Book::open(alloc, tree, seed, 1) {
+        Err(NoMemory) => RunEnd {
+            status: Status::NoMemory,
+            book: None,
+        },
+        Ok(mut book) => {
+            let status = work(alloc, &mut book, lines, sink);
+            RunEnd {
+                status,
+                book: Some(book),
+            }
+        }
+    }
+}
+
+/// Does the lines on a new Book, and writes what shows it.
+fn work<K: Sink, T: TreeDisk>(
+    alloc: Global,
+    book: &mut Book<T>,
+    lines: &[Line],
+    sink: &mut K,
+) -> Status
+    requires whole { IsWhole T.disk book.old }
+    requires fresh { history_of book.old ≡ nothing }
+    requires few { length lines.now ≤ most_lines }
+    ensures ended { WorkEnds T.disk T.counts lines.now book.new (K.taken sink.old) (K.taken sink.new) result }
+    ensures faults { result ≡ Status.WriteFault → Rose (K.fault_count sink.old) (K.fault_count sink.new) }
+    ensures steady { K.never_fails sink.old → result ≢ Status.WriteFault }
+    ensures whole { IsWhole T.disk book.new }
+{
+    match done(alloc, book, lines) {
+        Ok(text) => write(sink, text.as_slice(), Status::Done),
+        Err(NoMemory) => Status::NoMemory,
+    }
+}
+
+/// Does the lines on a new Book, and answers the text that shows it.
+fn done<T: TreeDisk>(alloc: Global, book: &mut Book<T>, lines: &[Line]) -> Result<Bytes, NoMemory>
+    requires whole { IsWhole T.disk book.old }
+    requires fresh { history_of book.old ≡ nothing }
+    requires few { length lines.now ≤ most_lines }
+    ensures done { IfOk result (IsDone T.disk T.counts lines.now book.new) }
+    ensures whole { IsWhole T.disk book.new }
+{
+    lines::do_lines(alloc, book, lines)?;
+    output::show(alloc, book)
+}
+
+/// Writes the text, and answers the status that comes where all of it is written.
+fn write<K: Sink>(sink: &mut K, text: &[u8], status: Status) -> Status
+    requires { status ≢ Status.WriteFault }
+    ensures nothing { text.now ≡ [] → result ≡ status }
+    ensures answer { InPlaceOf status result }
+    ensures taken { Takes result text.now (K.taken sink.old) (K.taken sink.new) }
+    ensures faults { result ≡ Status.WriteFault → Rose (K.fault_count sink.old) (K.fault_count sink.new) }
+    ensures steady { K.never_fails sink.old → result ≢ Status.WriteFault }
+{
+    if text.is_empty() {
+        return status;
+    }
+    match write_all(sink, text) {
+        Ok(()) => status,
+        Err(SinkFault::Failed) => Status::WriteFault,
+        Err(SinkFault::NoMemory) => Status::NoMemory,
+    }
+}

@@ -1,0 +1,173 @@
+ghost use Rattle.std.specs.Prelude.{◌≡◌, IfOk};
+ghost use Rattle.tree_memory.specs.Medium.{empty_disk};
+
+use crate::run;
+use journal_model::{Actor, Command, Reply};
+use std::alloc::Global;
+use std::test::Fail;
+use tree_memory::MemTree;
+use tree_model::{Bytes, NoMemory, TreeDisk};
+use vold_book::{Book, Standing, Turn};
+use vold_io::{MemSink, MemSource};
+
+const ONE: &[u8] = b"create 10\nall\n";
+
+const NOTHING: &[u8] = b"journal 0\ntree 0\n";
+
+const CREATED: &[u8] =
+    b"journal 6\nbegan 0 10 create 10\nsynced\nsynced\nchanged 0 create 10 0 0\nsynced\nreplied 0 ok\ntree 2\ndir de/10\nfile version 1 30\nfile encrypted_key 64 000000000a0000000000000000000000000000000000000000000000000000000000000000000000000000000000000000000000000000000000000000000000\ndir ce/10/current\nfile version 1 30\nfile encrypted_key 64 010000000a0000000000000000000000000000000000000000000000000000000000000000000000000000000000000000000000000000000000000000000000\n";
+
+const CREATED_TWICE: &[u8] =
+    b"journal 8\nbegan 0 10 create 10\nsynced\nsynced\nchanged 0 create 10 0 0\nsynced\nreplied 0 ok\nbegan 1 10 create 10\nreplied 1 user-exists\ntree 2\ndir de/10\nfile version 1 30\nfile encrypted_key 64 000000000a0000000000000000000000000000000000000000000000000000000000000000000000000000000000000000000000000000000000000000000000\ndir ce/10/current\nfile version 1 30\nfile encrypted_key 64 010000000a0000000000000000000000000000000000000000000000000000000000000000000000000000000000000000000000000000000000000000000000\n";
+
+const NOTHING_MADE: &[u8] = b"journal 2\nbegan 0 10 create 10\nreplied 0 tree-fault\ntree 0\n";
+
+const NOT_RENAMED: &[u8] =
+    b"journal 3\nbegan 0 10 create 10\nsynced\nreplied 0 tree-fault\ntree 1\ndir tmp/10\nfile version 1 30\nfile encrypted_key 64 010000000a0000000000000000000000000000000000000000000000000000000000000000000000000000000000000000000000000000000000000000000000\n";
+
+const UNREAD: &[u8] =
+    b"journal 6\nbegan 0 10 create 10\nsynced\nsynced\nchanged 0 create 10 0 0\nsynced\nreplied 0 ok\nunread tree\n";
+
+/// What a run wrote, and the number of its status.
+#[derive(Drop)]
+struct Written {
+    sink: MemSink,
+    status: u8,
+}
+
+#[test]
+fn prints_what_was_done(rt: HostRuntime) -> Result<(), Fail> {
+    for (script, text) in [
+        (b"".as_slice(), NOTHING),
+        (ONE, CREATED),
+        (b"create 10\ncreate 10\nall\n".as_slice(), CREATED_TWICE),
+    ] {
+        let tree = MemTree::new(rt.alloc())?;
+        let ran = ran(rt.alloc(), "run", script, None, None, tree)?;
+        assert_eq!(rt; ran.sink.as_slice(), text);
+        assert_eq!(rt; ran.status, 0);
+    }
+    Ok(())
+}
+
+#[test]
+fn prints_what_a_fault_left(rt: HostRuntime) -> Result<(), Fail> {
+    for (call, text) in [
+        (1, NOTHING_MADE),
+        (5, NOT_RENAMED),
+        (12, UNREAD),
+        (14, UNREAD),
+    ] {
+        let mut tree = MemTree::new(rt.alloc())?;
+        tree.plan_fault(call)?;
+        let ran = ran(rt.alloc(), "run", ONE, None, None, tree)?;
+        assert_eq!(rt; ran.sink.as_slice(), text);
+        assert_eq!(rt; ran.status, 0);
+    }
+    Ok(())
+}
+
+#[test]
+fn tells_why_nothing_is_done(rt: HostRuntime) -> Result<(), Fail> {
+    for (words, script, failing, status) in [
+        ("", ONE, None, 2),
+        ("walk", ONE, None, 2),
+        ("run x", ONE, None, 2),
+        ("run", b"make 10\n".as_slice(), None, 3),
+        ("run", ONE, Some(0), 5),
+        ("run", ONE, Some(1), 5),
+    ] {
+        let tree = MemTree::new(rt.alloc())?;
+        let ran = ran(rt.alloc(), words, script, failing, None, tree)?;
+        assert_eq!(rt; ran.sink.as_slice(), message(status));
+        assert_eq!(rt; ran.status, status);
+    }
+    Ok(())
+}
+
+#[test]
+fn tells_a_sink_that_fails(rt: HostRuntime) -> Result<(), Fail> {
+    for words in ["run", "walk"] {
+        let tree = MemTree::new(rt.alloc())?;
+        let ran = ran(rt.alloc(), words, ONE, None, Some(0), tree)?;
+        assert_eq!(rt; ran.sink.as_slice(), b"".as_slice());
+        assert_eq!(rt; ran.status, 6);
+    }
+    Ok(())
+}
+
+#[test]
+fn finds_busy_actors_in_order(rt: HostRuntime) -> Result<(), Fail> {
+    let mut book = opened(rt.alloc())?;
+    assert_eq!(rt; book.first_busy(), None);
+    assert!(rt; book.enqueue(Command::Create { user: 10 }) == Ok(0));
+    assert!(rt; book.enqueue(Command::Create { user: 7 }) == Ok(1));
+    assert_eq!(rt; book.first_busy(), Some(Actor::User(7)));
+    assert_eq!(rt; book.next_busy(Actor::User(7)), Some(Actor::User(10)));
+    assert_eq!(rt; book.next_busy(Actor::User(10)), None);
+    Ok(())
+}
+
+#[test]
+fn makes_thirteen_turns(rt: HostRuntime) -> Result<(), Fail> {
+    let mut book = opened(rt.alloc())?;
+    assert!(rt; book.enqueue(Command::Create { user: 10 }) == Ok(0));
+    assert!(rt; book.standing(0) == Standing::Queued);
+    assert!(rt; book.standing(1) == Standing::Unknown);
+    for turn in 0u32..14 {
+        let made = book.advance(Actor::User(10))?;
+        assert!(rt; (made == Turn::Went) == (turn < 13));
+    }
+    assert!(rt; book.standing(0) == Standing::Answered(Reply::Done));
+    assert_eq!(rt; book.callers(), [Actor::User(10); 11].as_slice());
+    Ok(())
+}
+
+/// A Book with an empty seed over an empty tree.
+fn opened(alloc: Global) -> Result<Book<MemTree>, NoMemory> {
+    Book::open(
+        alloc,
+        MemTree::new(alloc)?,
+        Bytes::from_vec(Vec::new(alloc)),
+        1,
+    )
+}
+
+/// The text in place of the output.
+fn message(status: u8) -> &'static [u8] {
+    match status {
+        2 => b"usage: vold run | vold rehearse <number> | vold threads\n",
+        3 => b"badscript\n",
+        _ => b"readfault\n",
+    }
+}
+
+/// A run over streams in memory, of which the reads and writes of these numbers fail.
+fn ran(
+    alloc: Global,
+    words: &str,
+    script: &[u8],
+    failing_read: Option<u64>,
+    failing_write: Option<u64>,
+    tree: MemTree,
+) -> Result<Written, NoMemory>
+    requires { tree.disk ≡ empty_disk }
+{
+    let words = words_of(alloc, words)?;
+    let mut source = MemSource::new(Bytes::copy(alloc, script)?, failing_read);
+    let mut sink = MemSink::new(alloc, failing_write);
+    let end = run(alloc, words.as_slice(), &mut source, &mut sink, tree);
+    Ok(Written {
+        sink,
+        status: end.status.number(),
+    })
+}
+
+/// The words of a line.
+fn words_of(alloc: Global, line: &str) -> Result<Vec<String>, NoMemory> {
+    let mut words = Vec::new(alloc);
+    for word in line.split_whitespace() {
+        words.push(word.to_string(alloc)?)?;
+    }
+    Ok(words)
+}
