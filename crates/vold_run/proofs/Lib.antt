@@ -1,3 +1,4 @@
+pub mod Counted
 pub mod Dirs
 pub mod Done
 pub mod Turned

@@ -11,6 +11,7 @@ use Rattle.script_text.specs.Status.{message_of}
 use Rattle.vold_book.specs.Book.{BookState}
 use Rattle.vold_book.specs.Numbers.{AllAsGiven}
 use Rattle.vold_book.specs.Stands.{IsLooked}
+use Rattle.vold_run.specs.Calls.{CountsCalls}
 use Rattle.vold_run.specs.Fits.{LinesFit, history_of, nothing}
 use Rattle.vold_run.specs.Input.{IsCause, ScriptCame}
 use Rattle.vold_run.specs.Lines.{commands_of, EndsIdle}
@@ -20,44 +21,45 @@ use Rattle.vold_run.specs.Shown.{Shows}
 abbrev pub InPlaceOf : Status → Status → Type 0
 InPlaceOf wanted status = (status ≡ wanted) ⊎ (status ≡ WriteFault) ⊎ (status ≡ NoMemory)
 
--- the lines are done on a Book, and the text shows it
-pub record IsDone {D : Type 0} (disk : D → Disk) (counts : D → Counts) (lines : List Line) (book : BookState D) (text : List ℕ) : Type 0 where
+-- the lines are done on a Book that was as `start`, and the text shows it
+pub record IsDone {D : Type 0} (disk : D → Disk) (counts : D → Counts) (start : BookState D) (lines : List Line) (book : BookState D) (text : List ℕ) : Type 0 where
   -- the numbered commands are those of the lines, in order, and what began with a number is the command of that number
   pub commands : book.commands ≡ commands_of lines
   pub began : AllAsGiven (commands_of lines) book.entries
   -- who moved in which line
   pub fits : LinesFit lines nothing (history_of book)
   pub idle : EndsIdle lines book
-  -- the Book as it was before the last looks at its device
+  -- the Book as it was before the last looks at its device; until then its calls were counted as they were made
   pub worked : BookState D
+  pub counted : CountsCalls counts start worked
   pub looked : IsLooked disk worked book
   pub shown : Shows disk counts worked book text
 
 -- the lines are done, and the sink took the whole text that shows it
-pub record Prints {D : Type 0} (disk : D → Disk) (counts : D → Counts) (lines : List Line) (book : BookState D) (taken taken' : Option (List ℕ)) : Type 0 where
+pub record Prints {D : Type 0} (disk : D → Disk) (counts : D → Counts) (start : BookState D) (lines : List Line) (book : BookState D) (taken taken' : Option (List ℕ)) : Type 0 where
   pub text : List ℕ
-  pub done : IsDone disk counts lines book text
+  pub done : IsDone disk counts start lines book text
   pub written : taken' ≡ append_known taken text
 
 -- the same, but the sink took a front of the text
-pub record PrintsFront {D : Type 0} (disk : D → Disk) (counts : D → Counts) (lines : List Line) (book : BookState D) (taken taken' : Option (List ℕ)) : Type 0 where
+pub record PrintsFront {D : Type 0} (disk : D → Disk) (counts : D → Counts) (start : BookState D) (lines : List Line) (book : BookState D) (taken taken' : Option (List ℕ)) : Type 0 where
   pub text : List ℕ
-  pub done : IsDone disk counts lines book text
+  pub done : IsDone disk counts start lines book text
   pub front : AddsFront text taken taken'
 
 -- how the work on a Book ends
-abbrev pub WorkEnds : {D : Type 0} → (D → Disk) → (D → Counts) → List Line → BookState D → Option (List ℕ) → Option (List ℕ) → Status → Type 0
-WorkEnds disk counts lines book taken taken' Done = Prints disk counts lines book taken taken'
-WorkEnds disk counts lines book taken taken' WriteFault = PrintsFront disk counts lines book taken taken'
-WorkEnds disk counts lines book taken taken' NoMemory = (taken' ≡ taken) ⊎ PrintsFront disk counts lines book taken taken'
-WorkEnds disk counts lines book taken taken' Usage = ⊥
-WorkEnds disk counts lines book taken taken' BadScript = ⊥
-WorkEnds disk counts lines book taken taken' ReadFault = ⊥
+abbrev pub WorkEnds : {D : Type 0} → (D → Disk) → (D → Counts) → BookState D → List Line → BookState D → Option (List ℕ) → Option (List ℕ) → Status → Type 0
+WorkEnds disk counts start lines book taken taken' Done = Prints disk counts start lines book taken taken'
+WorkEnds disk counts start lines book taken taken' WriteFault = PrintsFront disk counts start lines book taken taken'
+WorkEnds disk counts start lines book taken taken' NoMemory = (taken' ≡ taken) ⊎ PrintsFront disk counts start lines book taken taken'
+WorkEnds disk counts start lines book taken taken' Usage = ⊥
+WorkEnds disk counts start lines book taken taken' BadScript = ⊥
+WorkEnds disk counts start lines book taken taken' ReadFault = ⊥
 
 -- how a run of lines ends: without a Book only where memory ran out
-abbrev pub LinesEnd : {D : Type 0} → (D → Disk) → (D → Counts) → List Line → Option (List ℕ) → Option (List ℕ) → Status → Option (BookState D) → Type 0
-LinesEnd disk counts lines taken taken' status (Some book) = WorkEnds disk counts lines book taken taken' status
-LinesEnd disk counts lines taken taken' status None = (status ≡ NoMemory) × (taken' ≡ taken)
+abbrev pub LinesEnd : {D : Type 0} → (D → Disk) → (D → Counts) → BookState D → List Line → Option (List ℕ) → Option (List ℕ) → Status → Option (BookState D) → Type 0
+LinesEnd disk counts start lines taken taken' status (Some book) = WorkEnds disk counts start lines book taken taken' status
+LinesEnd disk counts start lines taken taken' status None = (status ≡ NoMemory) × (taken' ≡ taken)
 
 -- what the sink took of a text, by the status
 abbrev pub Takes : Status → List ℕ → Option (List ℕ) → Option (List ℕ) → Type 0
@@ -69,16 +71,16 @@ Takes WriteFault text taken taken' = AddsFront text taken taken'
 Takes NoMemory text taken taken' = AddsFront text taken taken'
 
 -- the script came whole, its lines are done, and the sink took the whole text that shows it
-pub record RunPrints {D : Type 0} (disk : D → Disk) (counts : D → Counts) (before after taken taken' : Option (List ℕ)) (book : BookState D) : Type 0 where
+pub record RunPrints {D : Type 0} (disk : D → Disk) (counts : D → Counts) (start : BookState D) (before after taken taken' : Option (List ℕ)) (book : BookState D) : Type 0 where
   pub lines : List Line
   pub came : ScriptCame before after lines
-  pub printed : Prints disk counts lines book taken taken'
+  pub printed : Prints disk counts start lines book taken taken'
 
 -- the same, but the sink took a front of the text
-pub record RunPrintsFront {D : Type 0} (disk : D → Disk) (counts : D → Counts) (before after taken taken' : Option (List ℕ)) (book : BookState D) : Type 0 where
+pub record RunPrintsFront {D : Type 0} (disk : D → Disk) (counts : D → Counts) (start : BookState D) (before after taken taken' : Option (List ℕ)) (book : BookState D) : Type 0 where
   pub lines : List Line
   pub came : ScriptCame before after lines
-  pub printed : PrintsFront disk counts lines book taken taken'
+  pub printed : PrintsFront disk counts start lines book taken taken'
 
 -- there are no lines to do, and the sink took a front of the message that tells why
 pub record TellsFront (words : List (List ℕ)) (before after : Option (List ℕ)) (faults faults' : ℕ) (taken taken' : Option (List ℕ)) : Type 0 where
@@ -91,6 +93,6 @@ abbrev pub HasMessage : Status → Type 0
 HasMessage status = (status ≡ Usage) ⊎ (status ≡ BadScript) ⊎ (status ≡ ReadFault)
 
 -- what was to be written, of which the sink took a front: with a Book what shows it, else the message that tells why there is none
-abbrev pub WritesFront : {D : Type 0} → (D → Disk) → (D → Counts) → List (List ℕ) → (before after : Option (List ℕ)) → (faults faults' : ℕ) → (taken taken' : Option (List ℕ)) → Option (BookState D) → Type 0
-WritesFront disk counts words before after faults faults' taken taken' None = TellsFront words before after faults faults' taken taken'
-WritesFront disk counts words before after faults faults' taken taken' (Some book) = RunPrintsFront disk counts before after taken taken' book
+abbrev pub WritesFront : {D : Type 0} → (D → Disk) → (D → Counts) → BookState D → List (List ℕ) → (before after : Option (List ℕ)) → (faults faults' : ℕ) → (taken taken' : Option (List ℕ)) → Option (BookState D) → Type 0
+WritesFront disk counts start words before after faults faults' taken taken' None = TellsFront words before after faults faults' taken taken'
+WritesFront disk counts start words before after faults faults' taken taken' (Some book) = RunPrintsFront disk counts start before after taken taken' book

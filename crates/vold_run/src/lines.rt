@@ -1,6 +1,7 @@
 ghost use Rattle.std.specs.Prelude.{◌≡◌, ◌≤◌, ◌+◌, ◌++◌, OnOk, OnErr, IsOk, length};
 ghost use Rattle.script_text.specs.Script.{most_lines};
 ghost use Rattle.vold_book.specs.Book.{IsWhole};
+ghost use Rattle.vold_run.specs.Calls.{CountsCalls};
 ghost use Rattle.vold_run.specs.Fits.{LineFits, LinesFit, history_of};
 ghost use Rattle.vold_run.specs.Lines.{command_of, commands_of, EndsIdle, LeavesNothing};
 
@@ -21,6 +22,7 @@ pub fn do_lines<T: TreeDisk>(
     requires few { length book.old.commands + length lines.now ≤ most_lines }
     ensures commands { OnOk result (book.new.commands ≡ book.old.commands ++ commands_of lines.now) }
     ensures fits { OnOk result (LinesFit lines.now (history_of book.old) (history_of book.new)) }
+    ensures counted { OnOk result (CountsCalls T.counts book.old book.new) }
     ensures idle { OnOk result (EndsIdle lines.now book.new) }
     ensures whole { IsWhole T.disk book.new }
 {
@@ -36,6 +38,7 @@ fn do_line<T: TreeDisk>(alloc: Global, book: &mut Book<T>, line: &Line) -> Resul
     requires few { length book.old.commands + 1 ≤ most_lines }
     ensures commands { OnOk result (book.new.commands ≡ book.old.commands ++ command_of line.now) }
     ensures fits { OnOk result (LineFits line.now (history_of book.old) (history_of book.new)) }
+    ensures counted { OnOk result (CountsCalls T.counts book.old book.new) }
     ensures idle { OnOk result (LeavesNothing line.now book.new) }
     ensures whole { IsWhole T.disk book.new }
 {

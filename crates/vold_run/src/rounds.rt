@@ -1,6 +1,7 @@
 ghost use Rattle.std.specs.Prelude.{◌≡◌, ◌<◌, ◌≤◌, None, OnOk, Some};
 ghost use Rattle.vold_book.specs.Book.{IsWhole, turns_left};
 ghost use Rattle.vold_book.specs.Busy.{IsNextBusy};
+ghost use Rattle.vold_run.specs.Calls.{CountsCalls};
 ghost use Rattle.vold_run.specs.Fits.{AllFits, RoundFits, history_of};
 ghost use Rattle.vold_run.specs.Rounds.{NothingLeft};
 
@@ -13,6 +14,7 @@ pub fn finish<T: TreeDisk>(book: &mut Book<T>) -> Result<(), NoMemory>
     requires { IsWhole T.disk book.old }
     ensures fits { OnOk result (AllFits (history_of book.old) (history_of book.new)) }
     ensures idle { OnOk result (NothingLeft book.new) }
+    ensures counted { OnOk result (CountsCalls T.counts book.old book.new) }
     ensures commands { book.new.commands ≡ book.old.commands }
     ensures whole { IsWhole T.disk book.new }
 {
@@ -27,6 +29,7 @@ fn round<T: TreeDisk>(book: &mut Book<T>, first: Actor) -> Result<(), NoMemory>
     requires whole { IsWhole T.disk book.old }
     requires first { IsNextBusy book.old None (Some first) }
     ensures fits { OnOk result (RoundFits (history_of book.old) (history_of book.new)) }
+    ensures counted { OnOk result (CountsCalls T.counts book.old book.new) }
     ensures falls { OnOk result (turns_left T.disk book.new < turns_left T.disk book.old) }
     ensures commands { book.new.commands ≡ book.old.commands }
     ensures whole { IsWhole T.disk book.new }

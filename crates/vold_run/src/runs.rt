@@ -6,6 +6,7 @@ ghost use Rattle.script_text.specs.Script.{most_lines};
 ghost use Rattle.script_text.specs.Status.{message_of};
 ghost use Rattle.vold_io.specs.Counted.{Rose};
 ghost use Rattle.vold_book.specs.Book.{IsWhole};
+ghost use Rattle.vold_book.specs.Turns.{new_book};
 ghost use Rattle.vold_run.specs.Fits.{history_of, nothing};
 ghost use Rattle.vold_run.specs.Input.{IsAccepted, IsRefused, RefusedCame, SomeScriptCame};
 ghost use Rattle.vold_run.specs.Ends.{HasMessage, InPlaceOf, IsDone, LinesEnd, RunPrints, Takes, WorkEnds, WritesFront};
@@ -35,10 +36,10 @@ pub fn run<S: Source, K: Sink, T: TreeDisk>(
     ensures bad_script { result.status ≡ Status.BadScript → (S.fault_count source.new ≡ S.fault_count source.old) × RefusedCame (S.rest source.old) (S.rest source.new) }
     ensures refused { IsAccepted (map string_bytes words.now) → ¬ (Rose (S.fault_count source.old) (S.fault_count source.new)) → IfSome (S.rest source.old) (λ told. IsRefused told → InPlaceOf Status.BadScript result.status) }
     ensures write_fault { result.status ≡ Status.WriteFault → Rose (K.fault_count sink.old) (K.fault_count sink.new) }
-    ensures done { result.status ≡ Status.Done → IsSomeAnd result.book (RunPrints T.disk T.counts (S.rest source.old) (S.rest source.new) (K.taken sink.old) (K.taken sink.new)) }
+    ensures done { result.status ≡ Status.Done → IsSomeAnd result.book (RunPrints T.disk T.counts (new_book tree []) (S.rest source.old) (S.rest source.new) (K.taken sink.old) (K.taken sink.new)) }
     ensures message { HasMessage result.status → (K.taken sink.new ≡ append_known (K.taken sink.old) (message_of result.status)) × IsNone result.book }
-    ensures front { result.status ≡ Status.WriteFault → WritesFront T.disk T.counts (map string_bytes words.now) (S.rest source.old) (S.rest source.new) (S.fault_count source.old) (S.fault_count source.new) (K.taken sink.old) (K.taken sink.new) result.book }
-    ensures no_memory { result.status ≡ Status.NoMemory → (K.taken sink.new ≡ K.taken sink.old) ⊎ (WritesFront T.disk T.counts (map string_bytes words.now) (S.rest source.old) (S.rest source.new) (S.fault_count source.old) (S.fault_count source.new) (K.taken sink.old) (K.taken sink.new) result.book) }
+    ensures front { result.status ≡ Status.WriteFault → WritesFront T.disk T.counts (new_book tree []) (map string_bytes words.now) (S.rest source.old) (S.rest source.new) (S.fault_count source.old) (S.fault_count source.new) (K.taken sink.old) (K.taken sink.new) result.book }
+    ensures no_memory { result.status ≡ Status.NoMemory → (K.taken sink.new ≡ K.taken sink.old) ⊎ (WritesFront T.disk T.counts (new_book tree []) (map string_bytes words.now) (S.rest source.old) (S.rest source.new) (S.fault_count source.old) (S.fault_count source.new) (K.taken sink.old) (K.taken sink.new) result.book) }
     ensures book { IfSome result.book (λ _. IsAccepted (map string_bytes words.now) × SomeScriptCame (S.rest source.old) (S.rest source.new) × InPlaceOf Status.Done result.status) }
     ensures read { IsAccepted (map string_bytes words.now) → ¬ (Rose (S.fault_count source.old) (S.fault_count source.new)) → IfSome (S.rest source.old) (λ told. ¬ (IsRefused told) → IsSome result.book ⊎ (result.status ≡ Status.NoMemory)) }
     ensures complete { IsAccepted (map string_bytes words.now) → S.never_fails source.old → K.never_fails sink.old → IfSome (S.rest source.old) (λ told. ¬ (IsRefused told) → (result.status ≡ Status.Done) ⊎ (result.status ≡ Status.NoMemory)) }
@@ -62,7 +63,7 @@ fn run_lines<K: Sink, T: TreeDisk>(
 ) -> RunEnd<T>
     requires empty { T.disk tree ≡ record { stable = finite.empty; pending = [] } }
     requires few { length lines.now ≤ most_lines }
-    ensures ended { LinesEnd T.disk T.counts lines.now (K.taken sink.old) (K.taken sink.new) result.status result.book }
+    ensures ended { LinesEnd T.disk T.counts (new_book tree []) lines.now (K.taken sink.old) (K.taken sink.new) result.status result.book }
     ensures faults { result.status ≡ Status.WriteFault → Rose (K.fault_count sink.old) (K.fault_count sink.new) }
     ensures steady { K.never_fails sink.old → result.status ≢ Status.WriteFault }
     ensures whole { IfSome result.book (IsWhole T.disk) }
@@ -93,7 +94,7 @@ fn work<K: Sink, T: TreeDisk>(
     requires whole { IsWhole T.disk book.old }
     requires fresh { history_of book.old ≡ nothing }
     requires few { length lines.now ≤ most_lines }
-    ensures ended { WorkEnds T.disk T.counts lines.now book.new (K.taken sink.old) (K.taken sink.new) result }
+    ensures ended { WorkEnds T.disk T.counts book.old lines.now book.new (K.taken sink.old) (K.taken sink.new) result }
     ensures faults { result ≡ Status.WriteFault → Rose (K.fault_count sink.old) (K.fault_count sink.new) }
     ensures steady { K.never_fails sink.old → result ≢ Status.WriteFault }
     ensures whole { IsWhole T.disk book.new }
@@ -109,7 +110,7 @@ fn done<T: TreeDisk>(alloc: Global, book: &mut Book<T>, lines: &[Line]) -> Resul
     requires whole { IsWhole T.disk book.old }
     requires fresh { history_of book.old ≡ nothing }
     requires few { length lines.now ≤ most_lines }
-    ensures done { IfOk result (IsDone T.disk T.counts lines.now book.new) }
+    ensures done { IfOk result (IsDone T.disk T.counts book.old lines.now book.new) }
     ensures whole { IsWhole T.disk book.new }
 {
     lines::do_lines(alloc, book, lines)?;

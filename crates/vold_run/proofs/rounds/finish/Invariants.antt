@@ -1,5 +1,6 @@
 use Rattle.std.proofs.Common.{◌≡◌, ℕ}
 use Rattle.vold_book.specs.Book.{IsWhole, turns_left}
+use Rattle.vold_run.specs.Calls.{CountsCalls}
 use Rattle.vold_run.specs.Fits.{RoundsFit, history_of}
 use Rattle.vold_run.proofs.rounds.finish.Given as goal
 
@@ -7,6 +8,7 @@ abbrev pub invariant-loop-first : goal.invariant-loop-first
 invariant-loop-first g l = record {
   commands : l.book.commands ≡ l.fn.book.commands;
   rounds : (count : ℕ) × RoundsFit count (history_of l.fn.book) (history_of l.book);
+  counted : CountsCalls g.T.TreeDisk.counts l.fn.book l.book;
   whole : IsWhole g.T.TreeDisk.disk l.book;
 }
 

@@ -1,0 +1,63 @@
+-- Turns count their calls, one after another.
+use Rattle.std.proofs.Common.{◌≡◌, ℕ, ◌≤◌, Bool, true, false, List, [], ◌∷◌, ◌++◌, refl, sym, ap, ◌∙◌, subst, arith, append_assoc}
+use Rattle.std.proofs.lemmas.List.{append-nil}
+use Rattle.std.specs.Prelude.{Option, Some, None, Ok}
+use Rattle.std.specs.FinMap as map
+use Rattle.tree_model.specs.Disk.{Disk}
+use Rattle.tree_model.specs.Counted.{Counts, IsCounted, one_more}
+use Rattle.journal_model.specs.declared.commands.Actor.{Actor}
+use Rattle.vold_book.specs.declared.turns.Turn.{Turn}
+use Rattle.vold_book.specs.declared.turns.Turn.TheVariants.{Went, Idle}
+use Rattle.vold_book.specs.declared.tasks.Running.{Running}
+use Rattle.vold_book.specs.declared.tasks.Task.{Task}
+use Rattle.vold_book.specs.declared.tasks.Task.TheVariants.{Create as Creating, Reply as Replying}
+use Rattle.vold_book.specs.Book.{BookState}
+use Rattle.vold_book.specs.Calls.{as_answer}
+use Rattle.vold_book.specs.Turns.{Answers, TurnsFrom, TaskTurns}
+use Rattle.vold_run.specs.Calls.{counted_up, CountsCalls}
+
+up-more : (first second : List Actor) (count : ℕ) → counted_up (first ++ second) count ≡ counted_up second (counted_up first count)
+up-more [] second count = refl
+up-more (caller ∷ first) second count = up-more first second (one_more count)
+
+-- a call that memory was there for is counted
+counted : (before after : Counts) (made : Bool) → IsCounted before after (as_answer (Ok made)) → after.calls ≡ one_more before.calls
+counted before after true is = is.counted (λ e. cc)
+counted before after false is = is.counted (λ e. cc)
+
+module _ {D : Type 0} (counts : D → Counts) where
+  -- where neither the device nor the callers changed
+  pub counts-same : (before after : BookState D) → after.tree ≡ before.tree → after.callers ≡ before.callers → CountsCalls counts before after
+  counts-same before after tree callers = record {
+    more = [];
+    callers = callers ∙ sym (append-nil before.callers);
+    calls = ap (λ t. (counts t).calls) tree;
+    faults = subst (λ t. (counts before.tree).faults ≤ (counts t).faults) (sym tree) (omega arith);
+  }
+
+  pub counts-joined : (before between after : BookState D) → CountsCalls counts before between → CountsCalls counts between after → CountsCalls counts before after
+  counts-joined before between after first second = record {
+    more = first.more ++ second.more;
+    callers = second.callers ∙ ap (λ cs. cs ++ second.more) first.callers ∙ append_assoc before.callers first.more second.more;
+    calls = second.calls ∙ ap (counted_up second.more) first.calls ∙ sym (up-more first.more second.more (counts before.tree).calls);
+    faults = let one = first.faults in let other = second.faults in omega (arith, one, other);
+  }
+
+  module _ (disk : D → Disk) (before after : BookState D) (actor : Actor) where
+    task-counts : (number : ℕ) (task : Task) → TaskTurns disk counts before after actor number task → CountsCalls counts before after
+    task-counts number (Creating create) calls = record {
+      more = actor ∷ [];
+      callers = ap (λ b. b.callers) calls.state;
+      calls = counted (counts before.tree) (counts after.tree) calls.made calls.counted;
+      faults = calls.counted.never_falls;
+    }
+    task-counts number (Replying reply) state = counts-same before after (ap (λ b. b.tree) state) (ap (λ b. b.callers) state)
+
+    turn-counts : (found : Option Running) → TurnsFrom disk counts before after actor found → CountsCalls counts before after
+    turn-counts None begins = counts-same before after (ap (λ b. b.tree) begins.state) (ap (λ b. b.callers) begins.state)
+    turn-counts (Some it) turns = task-counts it.number it.task turns
+
+    -- whatever a turn answers, its call was counted
+    pub answers-count : (turn : Turn) → Answers disk counts before after actor turn → CountsCalls counts before after
+    answers-count Went went = turn-counts (map.get before.running actor) went.turn
+    answers-count Idle idle = counts-same before after (ap (λ b. b.tree) idle.1) (ap (λ b. b.callers) idle.1)
