@@ -41,7 +41,7 @@ use Rattle.vold_book.specs.Create.{call_at, call_of, next_task, entry_at, entry_
 use Rattle.vold_book.specs.Numbers.{Waiting, queue_of, with_queue}
 use Rattle.vold_book.specs.Pending.{changes_made, count_changes, pending_after, power_after}
 use Rattle.vold_book.specs.Places.{PlaceMap, places_after, IsFirstInTheWay}
-use Rattle.vold_book.specs.Powered.{machine_phase, AgreesWith, TakesTurn, RecoveryStands, DownStands, HaltedStands}
+use Rattle.vold_book.specs.Powered.{machine_phase, AgreesWith, TakesTurn, RecoveryStands, IsAwaited, DownStands, HaltedStands}
 use Rattle.vold_book.specs.Recover.{IsFirstLeft, IsRecovered, RecoveryFits, recovery_task, dirty_after}
 use Rattle.vold_book.specs.Stops.{survivors, after_stop, after_restart, IsStopped, IsRestarted}
 use Rattle.vold_book.specs.TaskStands.{TaskStands}
@@ -71,7 +71,7 @@ module _ (entries : List Entry) where
   machine-with (Some entry) = sym (machine_after-append entries entry)
 
 -- a call notes neither the phase nor whether a recovery changed the tree
-power-phase : (made : Bool) (power : Power) (pending : List Bool) (call : Call) → (power_after made power pending call).phase ≡ power.phase
+pub power-phase : (made : Bool) (power : Power) (pending : List Bool) (call : Call) → (power_after made power pending call).phase ≡ power.phase
 power-phase made power pending (Change op) = refl
 power-phase true power pending SyncCall = refl
 power-phase false power pending SyncCall = refl
@@ -146,6 +146,44 @@ module _ {D : Type 0} (disk : D → Disk) where
       never : (found : Option BeganCommand) → IsSomeAnd found (λ began. (actor_of began.command ≡ actor) × TaskStands book.seed (disk book.tree) (machine_after book.entries) (Recovering recovery) began) → ⊥
       never None h = h
       never (Some began) h = h.1
+
+  -- what an actor runs is a command of the actor on the machine
+  pub run-began : (book : BookState D) (actor : Actor) (it : Running) → IsWhole disk book → map.get book.running actor ≡ Some it → IsSomeAnd (map.get (machine_after book.entries).running it.number) (λ began. actor_of began.command ≡ actor)
+  run-began book actor it whole at =
+      let found = map.get (machine_after book.entries).running it.number in
+      elim book.power.phase as (λ p. book.power.phase ≡ p → IsSomeAnd (map.get (machine_after book.entries).running it.number) (λ began. actor_of began.command ≡ actor)) [
+        | Up ↦ λ e. of_actor found ((ups book whole e).tasks.run actor it at)
+        | Down ↦ λ e. let run = (downs book whole e).run actor it at in of_boot found run.0 run.1
+        | Halted ↦ λ e. absurd (no_some it (sym ((halts book whole e).none actor) ∙ at))
+      ] refl
+    where
+      of_actor : (found : Option BeganCommand) → IsSomeAnd found (λ began. (actor_of began.command ≡ actor) × TaskStands book.seed (disk book.tree) (machine_after book.entries) it.task began) → IsSomeAnd found (λ began. actor_of began.command ≡ actor)
+      of_actor None h = h
+      of_actor (Some began) h = h.0
+
+      of_boot : (found : Option BeganCommand) → actor ≡ Boot → IsSomeAnd found IsAwaited → IsSomeAnd found (λ began. actor_of began.command ≡ actor)
+      of_boot None is h = h
+      of_boot (Some began) is h = ap actor_of h.command ∙ sym is
+
+  -- and a command on the machine is run by its actor
+  pub began-run : (book : BookState D) (number : ℕ) (began : BeganCommand) → IsWhole disk book → map.get (machine_after book.entries).running number ≡ Some began → IsSomeAnd (map.get book.running (actor_of began.command)) (λ it. it.number ≡ number)
+  began-run book number began whole at =
+      elim book.power.phase as (λ p. book.power.phase ≡ p → IsSomeAnd (map.get book.running (actor_of began.command)) (λ it. it.number ≡ number)) [
+        | Up ↦ λ e. (ups book whole e).tasks.all number began at
+        | Down ↦ λ e. by_boot (map.get book.running Boot) refl (downs book whole e) ((downs book whole e).all number began at)
+        | Halted ↦ λ e. absurd (no_some began (sym ((halts book whole e).nothing number) ∙ at))
+      ] refl
+    where
+      recovers : (found : Option BeganCommand) → found ≡ Some began → IsSomeAnd found IsAwaited → actor_of began.command ≡ Boot
+      recovers None is h = absurd h
+      recovers (Some b) is h = let same : b ≡ began = cc in ap (λ c. actor_of c.command) (sym same) ∙ ap actor_of h.command
+
+      by_boot : (found : Option Running) → map.get book.running Boot ≡ found → DownStands (disk book.tree) (machine_after book.entries) book.running book.places book.power.dirty → IsSomeAnd found (λ it. it.number ≡ number) → IsSomeAnd (map.get book.running (actor_of began.command)) (λ it. it.number ≡ number)
+      by_boot None is down h = absurd h
+      by_boot (Some it) is down h =
+          let awaited = (down.run Boot it is).1 in
+          let own = recovers (map.get (machine_after book.entries).running it.number) (ap (map.get (machine_after book.entries).running) h ∙ at) awaited in
+          subst (λ a. IsSomeAnd (map.get book.running a) (λ o. o.number ≡ number)) (sym own) (subst (λ found. IsSomeAnd found (λ o. o.number ≡ number)) (sym is) h)
 
   -- what runs is of an actor that has turns
   pub runs-takes : (book : BookState D) (actor : Actor) (it : Running) → IsWhole disk book → map.get book.running actor ≡ Some it → TakesTurn book.power.phase actor
