@@ -74,7 +74,7 @@ not_nil n ns e = cc
 pub contains-here : (n : ℕ) (ns : List ℕ) → Contains (n ∷ ns) n
 contains-here n ns = Contains-append_left (n ∷ []) ns n (Contains-push [] n)
 
-contains-there : (n : ℕ) (ns : List ℕ) (number : ℕ) → Contains ns number → Contains (n ∷ ns) number
+pub contains-there : (n : ℕ) (ns : List ℕ) (number : ℕ) → Contains ns number → Contains (n ∷ ns) number
 contains-there n ns number there = Contains-append_right (n ∷ []) ns number there
 
 pub contains-cons : (n : ℕ) (ns : List ℕ) (number : ℕ) → Contains (n ∷ ns) number → (n ≡ number) ⊎ Contains ns number

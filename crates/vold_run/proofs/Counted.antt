@@ -7,10 +7,10 @@ use Rattle.tree_model.specs.Disk.{Disk}
 use Rattle.tree_model.specs.Counted.{Counts, IsCounted, one_more}
 use Rattle.journal_model.specs.declared.commands.Actor.{Actor}
 use Rattle.vold_book.specs.declared.turns.Turn.{Turn}
-use Rattle.vold_book.specs.declared.turns.Turn.TheVariants.{Went, Idle}
+use Rattle.vold_book.specs.declared.turns.Turn.TheVariants.{Went, Idle, Waits}
 use Rattle.vold_book.specs.declared.tasks.Running.{Running}
 use Rattle.vold_book.specs.declared.tasks.Task.{Task}
-use Rattle.vold_book.specs.declared.tasks.Task.TheVariants.{Create as Creating, Reply as Replying}
+use Rattle.vold_book.specs.declared.tasks.Task.TheVariants.{Create as Creating, Recover as Recovering, Reply as Replying}
 use Rattle.vold_book.specs.Book.{BookState}
 use Rattle.vold_book.specs.Calls.{as_answer}
 use Rattle.vold_book.specs.Turns.{Answers, TurnsFrom, TaskTurns}
@@ -26,13 +26,13 @@ counted before after true is = is.counted (λ e. cc)
 counted before after false is = is.counted (λ e. cc)
 
 module _ {D : Type 0} (counts : D → Counts) where
-  -- where neither the device nor the callers changed
-  pub counts-same : (before after : BookState D) → after.tree ≡ before.tree → after.callers ≡ before.callers → CountsCalls counts before after
-  counts-same before after tree callers = record {
+  -- where neither the device's counts nor the callers changed
+  pub counts-same : (before after : BookState D) → counts after.tree ≡ counts before.tree → after.callers ≡ before.callers → CountsCalls counts before after
+  counts-same before after same callers = record {
     more = [];
     callers = callers ∙ sym (append-nil before.callers);
-    calls = ap (λ t. (counts t).calls) tree;
-    faults = subst (λ t. (counts before.tree).faults ≤ (counts t).faults) (sym tree) (omega arith);
+    calls = ap (λ c. c.calls) same;
+    faults = subst (λ c. (counts before.tree).faults ≤ c.faults) (sym same) (omega arith);
   }
 
   pub counts-joined : (before between after : BookState D) → CountsCalls counts before between → CountsCalls counts between after → CountsCalls counts before after
@@ -51,13 +51,20 @@ module _ {D : Type 0} (counts : D → Counts) where
       calls = counted (counts before.tree) (counts after.tree) calls.made calls.counted;
       faults = calls.counted.never_falls;
     }
-    task-counts number (Replying reply) state = counts-same before after (ap (λ b. b.tree) state) (ap (λ b. b.callers) state)
+    task-counts number (Recovering recovery) recovers = record {
+      more = actor ∷ [];
+      callers = ap (λ b. b.callers) recovers.state;
+      calls = counted (counts before.tree) (counts after.tree) recovers.made recovers.counted;
+      faults = recovers.counted.never_falls;
+    }
+    task-counts number (Replying reply) state = counts-same before after (ap (λ b. counts b.tree) state) (ap (λ b. b.callers) state)
 
     turn-counts : (found : Option Running) → TurnsFrom disk counts before after actor found → CountsCalls counts before after
-    turn-counts None begins = counts-same before after (ap (λ b. b.tree) begins.state) (ap (λ b. b.callers) begins.state)
+    turn-counts None begins = counts-same before after (ap (λ b. counts b.tree) begins.state) (ap (λ b. b.callers) begins.state)
     turn-counts (Some it) turns = task-counts it.number it.task turns
 
     -- whatever a turn answers, its call was counted
     pub answers-count : (turn : Turn) → Answers disk counts before after actor turn → CountsCalls counts before after
     answers-count Went went = turn-counts (map.get before.running actor) went.turn
-    answers-count Idle idle = counts-same before after (ap (λ b. b.tree) idle.1) (ap (λ b. b.callers) idle.1)
+    answers-count Idle idle = counts-same before after (ap (λ b. counts b.tree) idle.1) (ap (λ b. b.callers) idle.1)
+    answers-count Waits waits = counts-same before after (ap (λ b. counts b.tree) waits.2) (ap (λ b. b.callers) waits.2)

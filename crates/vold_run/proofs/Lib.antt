@@ -1,6 +1,10 @@
 pub mod Counted
 pub mod Dirs
 pub mod Done
+pub mod Kept
+pub mod LineDone
+pub mod Placed
+pub mod Queued
 pub mod Turned
 pub mod Words
 pub mod Work

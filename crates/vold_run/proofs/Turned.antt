@@ -1,19 +1,20 @@
--- Turns make rounds, rounds make a line, and lines make a script.
-use Rattle.std.proofs.Common.{◌≡◌, inl, inr, ℕ, zero, suc, ◌+◌, ◌<◌, List, [], ◌∷◌, ◌++◌, length, get_or, take, refl, sym, ap, ◌∙◌, subst, add-one}
-use Rattle.std.specs.Prelude.{Option, Some, None, IsSome}
-use Rattle.std.proofs.Math.Seq.{take-suc}
+-- Turns make rounds, and rounds and given turns make a line.
+use Rattle.std.proofs.Common.{◌≡◌, ◌≢◌, ◌⊎◌, inl, inr, ℕ, zero, suc, ◌+◌, List, [], ◌∷◌, ◌++◌, refl, sym, ap, subst, add-one}
+use Rattle.std.specs.Prelude.{Option, Some, None, IsSome, IsNone}
+use Rattle.std.specs.FinMap as map
 use Rattle.tree_model.specs.Disk.{Disk}
 use Rattle.tree_model.specs.Counted.{Counts}
 use Rattle.journal_model.specs.declared.commands.Actor.{Actor}
-use Rattle.script_text.specs.declared.script.Line.{Line}
 use Rattle.vold_book.specs.declared.turns.Turn.{Turn}
-use Rattle.vold_book.specs.declared.turns.Turn.TheVariants.{Went, Idle}
-use Rattle.vold_book.specs.Book.{BookState, IsWhole}
+use Rattle.vold_book.specs.declared.turns.Turn.TheVariants.{Went, Idle, Waits}
+use Rattle.vold_book.specs.Book.{BookState}
 use Rattle.vold_book.specs.Busy.{IsBusy, IsNextBusy}
-use Rattle.vold_book.specs.Turns.{Answers, Goes}
+use Rattle.vold_book.specs.Powered.{TakesTurn}
+use Rattle.vold_book.specs.Turns.{Answers, Goes, IsIdle}
 use Rattle.vold_run.specs.Rounds.{NothingLeft}
-use Rattle.vold_run.specs.Fits.{History, history_of, IsNextAtWork, TurnFits, TurnsFit, RoundFits, RoundsFit, AllFits, LineFits, LinesFit}
-use Rattle.vold_run.proofs.Work.{turn-fits, next-fits, none-fits, idle-fits}
+use Rattle.vold_run.specs.Lines.{IsBetweenLines}
+use Rattle.vold_run.specs.Fits.{History, history_of, IsNextAtWork, TurnFits, TurnsFit, RoundFits, RoundsFit, AllFits, MayTurn, TurnsOf}
+use Rattle.vold_run.proofs.Work.{turn-fits, next-fits, none-fits, waits-fits, idle-fits, none-behind, at-work, work-takes, work-busy}
 
 turns_more : (actors : List Actor) (actor : Actor) (before between after : History) (first last : Option Actor) → TurnsFit actors before first between last → IsNextAtWork between last actor → TurnFits between actor after → TurnsFit (actors ++ actor ∷ []) before first after (Some actor)
 turns_more [] actor before between after first last turns next turn =
@@ -25,14 +26,13 @@ pub rounds_more : (count : ℕ) (before between after : History) → RoundsFit c
 rounds_more zero before between after rounds round = (after, subst (λ b. RoundFits b after) rounds round, refl)
 rounds_more (suc count) before between after rounds round = (rounds.0, rounds.1, rounds_more count rounds.0 between after rounds.2 round)
 
-lines_more : (lines : List Line) (line : Line) (before between after : History) → LinesFit lines before between → LineFits line between after → LinesFit (lines ++ line ∷ []) before after
-lines_more [] line before between after fit fits = (after, subst (λ b. LineFits line b after) fit fits, refl)
-lines_more (other ∷ lines) line before between after fit fits = (fit.0, fit.1, lines_more lines line fit.0 between after fit.2 fits)
+turns_of_more : (actor : Actor) (count : ℕ) (before between after : History) → TurnsOf actor count before between → MayTurn actor between after → TurnsOf actor (suc count) before after
+turns_of_more actor zero before between after turns turn = (after, subst (λ b. MayTurn actor b after) turns turn, refl)
+turns_of_more actor (suc count) before between after turns turn = (turns.0, turns.1, turns_of_more actor count turns.0 between after turns.2 turn)
 
--- the next line after the first ones
-pub next_line : (lines : List Line) (i : ℕ) (line : Line) (before between after : History) → i < length lines → LinesFit (take i lines) before between → LineFits (get_or lines i line) between after → LinesFit (take (i + 1) lines) before after
-next_line lines i line before between after within fit fits =
-    subst (λ ls. LinesFit ls before after) (sym (ap (λ n. take n lines) (add-one i) ∙ take-suc lines i line within)) (lines_more (take i lines) (get_or lines i line) before between after fit fits)
+-- a further turn that an actor is given
+pub turns-more : (actor : Actor) (count : ℕ) (before between after : History) → TurnsOf actor count before between → MayTurn actor between after → TurnsOf actor (count + 1) before after
+turns-more actor count before between after turns turn = subst (λ n. TurnsOf actor n before after) (sym (add-one count)) (turns_of_more actor count before between after turns turn)
 
 -- a round as far as it has come: its turns so far, and the next busy actor after the last of them
 pub record RoundGoes {D : Type 0} (before : History) (book : BookState D) (next : Option Actor) : Type 0 where
@@ -41,45 +41,74 @@ pub record RoundGoes {D : Type 0} (before : History) (book : BookState D) (next 
   pub turns : TurnsFit actors before None (history_of book) (Some last)
   pub coming : IsNextBusy book (Some last) next
 
-there_and_not : {A : Type 0} (found : Option A) → IsSome found → found ≡ None → ⊥
-there_and_not found there none = cc
-
-none_of : {A : Type 0} (found : Option A) → ¬ (IsSome found) → found ≡ None
-none_of None h = refl
-none_of (Some a) h = absurd (h refl)
-
--- a busy actor's turn goes
-goes : {D : Type 0} (disk : D → Disk) (counts : D → Counts) (before after : BookState D) (actor : Actor) (turn : Turn) → Answers disk counts before after actor turn → IsBusy before actor → Goes disk counts before after actor
-goes disk counts before after actor Went went busy = went
-goes disk counts before after actor Idle idle busy = absurd (busy_not busy)
+-- an actor that isn't idle is busy
+busy : {D : Type 0} (book : BookState D) (actor : Actor) → ¬ (IsIdle book actor) → IsBusy book actor
+busy book actor not = by (map.get book.running actor) (map.get book.waiting actor) not
   where
-    busy_not : IsBusy before actor → ⊥
-    busy_not (inl runs) = cc (runs, idle.0.0)
-    busy_not (inr waits) = cc (waits, idle.0.1)
+    by : {A B : Type 0} (runs : Option A) (waits : Option B) → ¬ (IsNone runs × IsNone waits) → IsSome runs ⊎ IsSome waits
+    by (Some it) waits not = inl refl
+    by None (Some numbers) not = inr refl
+    by None None not = absurd (not (refl, refl))
+
+idle-not : {D : Type 0} (book : BookState D) (actor : Actor) → IsIdle book actor → IsBusy book actor → ⊥
+idle-not book actor idle (inl runs) = cc (runs, idle.0)
+idle-not book actor idle (inr waits) = cc (waits, idle.1)
+
+module _ {D : Type 0} (disk : D → Disk) (counts : D → Counts) (before after : BookState D) where
+  -- a turn that went
+  pub went : (actor : Actor) (turn : Turn) → turn ≡ Went → Answers disk counts before after actor turn → Goes disk counts before after actor
+  went actor Went is answers = answers
+  went actor Idle is answers = cc
+  went actor Waits is answers = cc
+
+  -- a busy actor's turn that didn't go waits for the machine, and nothing changed
+  pub waited : (actor : Actor) (turn : Turn) → turn ≢ Went → IsBusy before actor → Answers disk counts before after actor turn → ¬ (TakesTurn before.power.phase actor) × (after ≡ before)
+  waited actor Went not busy answers = absurd (not refl)
+  waited actor Idle not busy answers = absurd (idle-not before actor answers.0 busy)
+  waited actor Waits not busy answers = (answers.1, answers.2)
+
+  -- where the first busy actor waits, all wait
+  pub all-wait : (first : Actor) (turn : Turn) → turn ≢ Went → IsNextBusy before None (Some first) → Answers disk counts before after first turn → NothingLeft before × (after ≡ before)
+  all-wait first turn not is answers =
+      let waits = waited first turn not is.0 answers in
+      (λ actor busy takes. none-behind before.power.phase first actor waits.0 takes (is.2 actor busy tt), waits.1)
+
+  -- a turn that an actor is given, whatever it answers
+  pub may-turn : (actor : Actor) (turn : Turn) → IsBetweenLines disk before → Answers disk counts before after actor turn → MayTurn actor (history_of before) (history_of after)
+  may-turn actor Went between goes = inl (at-work disk before between.whole actor (busy before actor goes.busy) goes.takes, turn-fits disk counts before after actor between goes)
+  may-turn actor Idle between idle = inr (λ work. idle-not before actor idle.0 (work-busy disk before between.whole actor work), ap history_of idle.1)
+  may-turn actor Waits between waits = inr (λ work. waits.1 (work-takes disk before between.whole actor work), ap history_of waits.2)
 
 module _ {D : Type 0} (disk : D → Disk) (counts : D → Counts) where
-  pub round-begins : (before after : BookState D) (first : Actor) (turn : Turn) (next : Option Actor) → IsWhole disk before → IsNextBusy before None (Some first) → Answers disk counts before after first turn → IsNextBusy after (Some first) next
+  pub round-begins : (before after : BookState D) (first : Actor) (next : Option Actor) → IsBetweenLines disk before → IsNextBusy before None (Some first) → Goes disk counts before after first → IsNextBusy after (Some first) next
       → RoundGoes (history_of before) after next
-  round-begins before after first turn next whole is answers then = record {
+  round-begins before after first next between is goes then = record {
     actors = first ∷ [];
     last = first;
-    turns = (next-fits disk before whole None first is, (history_of after, turn-fits disk counts before after first whole (goes disk counts before after first turn answers is.0), (refl, refl)));
+    turns = (next-fits disk before between.whole None first is goes.takes, (history_of after, turn-fits disk counts before after first between goes, (refl, refl)));
     coming = then;
   }
 
-  pub round-goes : (start : History) (before after : BookState D) (actor : Actor) (turn : Turn) (next : Option Actor) → RoundGoes start before (Some actor) → IsWhole disk before → Answers disk counts before after actor turn → IsNextBusy after (Some actor) next
+  pub round-goes : (start : History) (before after : BookState D) (actor : Actor) (next : Option Actor) → RoundGoes start before (Some actor) → IsBetweenLines disk before → Goes disk counts before after actor → IsNextBusy after (Some actor) next
       → RoundGoes start after next
-  round-goes start before after actor turn next going whole answers then = record {
+  round-goes start before after actor next going between goes then = record {
     actors = going.actors ++ actor ∷ [];
     last = actor;
-    turns = turns_more going.actors actor start (history_of before) (history_of after) None (Some going.last) going.turns (next-fits disk before whole (Some going.last) actor going.coming)
-        (turn-fits disk counts before after actor whole (goes disk counts before after actor turn answers going.coming.0));
+    turns = turns_more going.actors actor start (history_of before) (history_of after) None (Some going.last) going.turns (next-fits disk before between.whole (Some going.last) actor going.coming goes.takes)
+        (turn-fits disk counts before after actor between goes);
     coming = then;
   }
 
-  pub round-ends : (start : History) (book : BookState D) → RoundGoes start book None → IsWhole disk book → RoundFits start (history_of book)
-  round-ends start book going whole = record { actors = going.actors; last = Some going.last; turns = going.turns; ended = none-fits disk book whole (Some going.last) going.coming }
+  pub round-ends : (start : History) (book : BookState D) → RoundGoes start book None → IsBetweenLines disk book → RoundFits start (history_of book)
+  round-ends start book going between = record { actors = going.actors; last = Some going.last; turns = going.turns; ended = none-fits disk book between.whole (Some going.last) going.coming }
 
-  -- when no actor is busy, the rounds are all
-  pub all-ends : (start : History) (book : BookState D) (count : ℕ) → RoundsFit count start (history_of book) → IsWhole disk book → NothingLeft book → AllFits start (history_of book)
-  all-ends start book count rounds whole idle = record { count = count; rounds = rounds; ended = idle-fits disk book whole idle }
+  -- the next busy actor waits for the machine, and so do all behind it
+  pub round-waits : (start : History) (before after : BookState D) (actor : Actor) (turn : Turn) → turn ≢ Went → RoundGoes start before (Some actor) → IsBetweenLines disk before → Answers disk counts before after actor turn → RoundFits start (history_of after)
+  round-waits start before after actor turn not going between answers =
+      let waits = waited disk counts before after actor turn not going.coming.0 answers in
+      subst (λ book. RoundFits start (history_of book)) (sym waits.1)
+      (record { actors = going.actors; last = Some going.last; turns = going.turns; ended = waits-fits disk before between.whole (Some going.last) actor going.coming waits.0 })
+
+  -- when no actor is at work, the rounds are all
+  pub all-ends : (start : History) (book : BookState D) (count : ℕ) → RoundsFit count start (history_of book) → IsBetweenLines disk book → NothingLeft book → AllFits start (history_of book)
+  all-ends start book count rounds between idle = record { count = count; rounds = rounds; ended = idle-fits disk book between.whole idle }

@@ -7,6 +7,7 @@ use Rattle.vold_io.specs.Transfers.{AddsFront}
 use Rattle.script_text.specs.declared.script.Line.{Line}
 use Rattle.script_text.specs.declared.status.Status.{Status}
 use Rattle.script_text.specs.declared.status.Status.TheVariants.{Done, Usage, BadScript, ReadFault, WriteFault, NoMemory}
+use Rattle.script_text.specs.Script.{seed_of}
 use Rattle.script_text.specs.Status.{message_of}
 use Rattle.vold_book.specs.Book.{BookState}
 use Rattle.vold_book.specs.Numbers.{AllAsGiven}
@@ -14,7 +15,7 @@ use Rattle.vold_book.specs.Stands.{IsLooked}
 use Rattle.vold_run.specs.Calls.{CountsCalls}
 use Rattle.vold_run.specs.Fits.{LinesFit, history_of, nothing}
 use Rattle.vold_run.specs.Input.{IsCause, ScriptCame}
-use Rattle.vold_run.specs.Lines.{commands_of, EndsIdle}
+use Rattle.vold_run.specs.Lines.{commands_of, orders_of, EndsIdle}
 use Rattle.vold_run.specs.Shown.{Shows}
 
 -- this status, or one that comes in place of any: the text could not be written, or memory ran out
@@ -29,6 +30,9 @@ pub record IsDone {D : Type 0} (disk : D → Disk) (counts : D → Counts) (star
   -- who moved in which line
   pub fits : LinesFit lines nothing (history_of book)
   pub idle : EndsIdle lines book
+  -- the seed is the script's, and the stops are those of its lines
+  pub seed : book.seed ≡ seed_of lines
+  pub orders : book.orders ≡ orders_of lines
   -- the Book as it was before the last looks at its device; until then its calls were counted as they were made
   pub worked : BookState D
   pub counted : CountsCalls counts start worked
@@ -70,17 +74,17 @@ Takes ReadFault text taken taken' = taken' ≡ append_known taken text
 Takes WriteFault text taken taken' = AddsFront text taken taken'
 Takes NoMemory text taken taken' = AddsFront text taken taken'
 
--- the script came whole, its lines are done, and the sink took the whole text that shows it
-pub record RunPrints {D : Type 0} (disk : D → Disk) (counts : D → Counts) (start : BookState D) (before after taken taken' : Option (List ℕ)) (book : BookState D) : Type 0 where
+-- the script came whole, its lines are done on a Book that was opened with the script's seed, and the sink took the whole text that shows it
+pub record RunPrints {D : Type 0} (disk : D → Disk) (counts : D → Counts) (start : List ℕ → BookState D) (before after taken taken' : Option (List ℕ)) (book : BookState D) : Type 0 where
   pub lines : List Line
   pub came : ScriptCame before after lines
-  pub printed : Prints disk counts start lines book taken taken'
+  pub printed : Prints disk counts (start (seed_of lines)) lines book taken taken'
 
 -- the same, but the sink took a front of the text
-pub record RunPrintsFront {D : Type 0} (disk : D → Disk) (counts : D → Counts) (start : BookState D) (before after taken taken' : Option (List ℕ)) (book : BookState D) : Type 0 where
+pub record RunPrintsFront {D : Type 0} (disk : D → Disk) (counts : D → Counts) (start : List ℕ → BookState D) (before after taken taken' : Option (List ℕ)) (book : BookState D) : Type 0 where
   pub lines : List Line
   pub came : ScriptCame before after lines
-  pub printed : PrintsFront disk counts start lines book taken taken'
+  pub printed : PrintsFront disk counts (start (seed_of lines)) lines book taken taken'
 
 -- there are no lines to do, and the sink took a front of the message that tells why
 pub record TellsFront (words : List (List ℕ)) (before after : Option (List ℕ)) (faults faults' : ℕ) (taken taken' : Option (List ℕ)) : Type 0 where
@@ -93,6 +97,6 @@ abbrev pub HasMessage : Status → Type 0
 HasMessage status = (status ≡ Usage) ⊎ (status ≡ BadScript) ⊎ (status ≡ ReadFault)
 
 -- what was to be written, of which the sink took a front: with a Book what shows it, else the message that tells why there is none
-abbrev pub WritesFront : {D : Type 0} → (D → Disk) → (D → Counts) → BookState D → List (List ℕ) → (before after : Option (List ℕ)) → (faults faults' : ℕ) → (taken taken' : Option (List ℕ)) → Option (BookState D) → Type 0
+abbrev pub WritesFront : {D : Type 0} → (D → Disk) → (D → Counts) → (List ℕ → BookState D) → List (List ℕ) → (before after : Option (List ℕ)) → (faults faults' : ℕ) → (taken taken' : Option (List ℕ)) → Option (BookState D) → Type 0
 WritesFront disk counts start words before after faults faults' taken taken' None = TellsFront words before after faults faults' taken taken'
 WritesFront disk counts start words before after faults faults' taken taken' (Some book) = RunPrintsFront disk counts start before after taken taken' book

@@ -1,19 +1,22 @@
 -- Who moved in which line: how the lines of a script, the entries of a journal and the device's calls fit together. What
 -- waits and what runs is read off the commands that were given and the journal.
-use Rattle.std.specs.Prelude.{◌≡◌, ℕ, zero, suc, ◌≤◌, ◌⊎◌, List, [], ◌∷◌, ◌++◌, Option, Some, None, IsSomeAnd, Contains, slice_get}
+use Rattle.std.specs.Prelude.{◌≡◌, ℕ, zero, suc, ◌+◌, ◌≤◌, ◌⊎◌, List, [], ◌∷◌, ◌++◌, Option, Some, None, IsSomeAnd, Contains, slice_get}
 use Rattle.std.specs.declared.cmp.Ordering.TheVariants.{Less, Equal}
 use Rattle.std.specs.FinMap as map
+use Rattle.tree_model.specs.declared.ops.Cut.{Cut}
 use Rattle.journal_model.specs.declared.commands.Actor.{Actor}
+use Rattle.journal_model.specs.declared.commands.Actor.TheVariants.{Boot, Cp, User}
 use Rattle.journal_model.specs.declared.commands.Command.{Command}
+use Rattle.journal_model.specs.declared.commands.Command.TheVariants.{Recover}
 use Rattle.journal_model.specs.declared.commands.Reply.{Reply}
 use Rattle.journal_model.specs.declared.entries.Change.{Change}
 use Rattle.journal_model.specs.declared.entries.Entry.{Entry}
-use Rattle.journal_model.specs.declared.entries.Entry.TheVariants.{Began, Changed, Synced, Replied}
+use Rattle.journal_model.specs.declared.entries.Entry.TheVariants.{Began, Changed, Synced, Stopped, Restarted, Replied}
 use Rattle.journal_model.specs.Actor.{actor_cmp}
 use Rattle.journal_model.specs.Command.{actor_of}
-use Rattle.journal_model.specs.Machine.{machine_after, numbers_begun}
+use Rattle.journal_model.specs.Machine.{Phase, Up, Down, Halted, machine_after, numbers_begun}
 use Rattle.script_text.specs.declared.script.Line.{Line}
-use Rattle.script_text.specs.declared.script.Line.TheVariants.{Do, All}
+use Rattle.script_text.specs.declared.script.Line.TheVariants.{Seed, Do, Turns, All, Stop, Restart}
 use Rattle.vold_book.specs.Book.{BookState}
 use Rattle.vold_book.specs.Busy.{IsAfter}
 
@@ -42,18 +45,37 @@ Runs history actor number = IsSomeAnd (map.get (machine_after history.entries).r
 abbrev pub HasWork : History → Actor → Type 0
 HasWork history actor = (number : ℕ) × (Runs history actor number ⊎ Waits history actor number)
 
--- no actor has
-abbrev pub NoWork : History → Type 0
-NoWork history = (actor : Actor) → ¬ (HasWork history actor)
+-- whose turns the machine takes in a phase: every actor's while it is up, the recovery's alone once it started again
+abbrev pub Allows : Phase → Actor → Type 0
+Allows Up actor = Unit {0}
+Allows Down Boot = Unit {0}
+Allows Down Cp = ⊥
+Allows Down (User user) = ⊥
+Allows Halted actor = ⊥
 
--- the first actor after another, or of all, that has something to do
+-- the actor has something to do, and the machine takes its turns
+pub record IsAtWork (history : History) (actor : Actor) : Type 0 where
+  pub works : HasWork history actor
+  pub allowed : Allows (machine_after history.entries).phase actor
+
+-- no actor is
+abbrev pub NoWork : History → Type 0
+NoWork history = (actor : Actor) → ¬ (IsAtWork history actor)
+
+-- the first actor at work after another, or of all
 pub record IsNextAtWork (history : History) (after : Option Actor) (next : Actor) : Type 0 where
-  pub works : HasWork history next
+  pub works : IsAtWork history next
   pub later : IsAfter after next
-  pub first : (other : Actor) → HasWork history other → IsAfter after other → (actor_cmp next other ≡ Less) ⊎ (actor_cmp next other ≡ Equal)
+  pub first : (other : Actor) → IsAtWork history other → IsAfter after other → (actor_cmp next other ≡ Less) ⊎ (actor_cmp next other ≡ Equal)
 
 abbrev pub NoneAtWork : History → Option Actor → Type 0
-NoneAtWork history after = (other : Actor) → HasWork history other → IsAfter after other → ⊥
+NoneAtWork history after = (other : Actor) → IsAtWork history other → IsAfter after other → ⊥
+
+-- which of an actor's numbers begins before another: the lower one, but of the recoveries that restarts gave the newest
+abbrev pub ComesBy : Actor → ℕ → ℕ → Type 0
+ComesBy Boot number other = other ≤ number
+ComesBy Cp number other = number ≤ other
+ComesBy (User user) number other = number ≤ other
 
 -- an actor that runs nothing begins the first number that waits for it, without a call
 pub record BeginsNext (before : History) (actor : Actor) (after : History) : Type 0 where
@@ -61,7 +83,7 @@ pub record BeginsNext (before : History) (actor : Actor) (after : History) : Typ
   pub command : Command
   pub idle : (other : ℕ) → ¬ (Runs before actor other)
   pub waits : Waits before actor number
-  pub first : (other : ℕ) → Waits before actor other → number ≤ other
+  pub first : (other : ℕ) → Waits before actor other → ComesBy actor number other
   pub given : slice_get before.commands number ≡ Some command
   pub left : after ≡ record before { entries = before.entries ++ Began number actor command ∷ [] }
 
@@ -105,16 +127,39 @@ abbrev pub RoundsFit : ℕ → History → History → Type 0
 RoundsFit zero before after = after ≡ before
 RoundsFit (suc count) before after = (between : History) × RoundFits before between × RoundsFit count between after
 
--- rounds until no actor has something to do
+-- rounds until no actor is at work
 pub record AllFits (before after : History) : Type 0 where
   pub count : ℕ
   pub rounds : RoundsFit count before after
   pub ended : NoWork after
 
--- what a line does: a command is given, or every actor works until none has something to do
+-- a turn that an actor is given: it makes one where it is at work, and else nothing happens
+abbrev pub MayTurn : Actor → History → History → Type 0
+MayTurn actor before after = (IsAtWork before actor × TurnFits before actor after) ⊎ (¬ (IsAtWork before actor) × (after ≡ before))
+
+-- so many turns that an actor is given
+abbrev pub TurnsOf : Actor → ℕ → History → History → Type 0
+TurnsOf actor zero before after = after ≡ before
+TurnsOf actor (suc count) before after = (between : History) × MayTurn actor before between × TurnsOf actor count between after
+
+-- the machine stops: no turn is made, and where no pending operation is kept the changes are those that were durable
+pub record StopFits (cut : Cut) (before after : History) : Type 0 where
+  pub kept : ℕ
+  pub left : after ≡ record before { entries = before.entries ++ Stopped kept ∷ [] }
+  pub none : cut.keep ≡ 0 → kept ≡ (machine_after before.entries).kept
+
+-- what a line does: a command is given; an actor gets so many turns; every actor works until none is at work; the machine
+-- stops; it starts again, and a recovery is given
 abbrev pub LineFits : Line → History → History → Type 0
+LineFits (Seed bytes) before after = after ≡ before
 LineFits (Do command) before after = after ≡ record before { commands = before.commands ++ command ∷ [] }
+LineFits (Turns actor count) before after = TurnsOf actor count before after
 LineFits All before after = AllFits before after
+LineFits (Stop cut) before after = StopFits cut before after
+LineFits (Restart level) before after = after ≡ record before {
+  commands = before.commands ++ Recover ∷ [];
+  entries = before.entries ++ Restarted ((machine_after before.entries).boot + 1) level ∷ [];
+}
 
 -- what the lines do, one after another
 abbrev pub LinesFit : List Line → History → History → Type 0

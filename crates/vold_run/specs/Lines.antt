@@ -1,19 +1,49 @@
 -- What a script's lines ask of a Book.
-use Rattle.std.specs.Prelude.{◌≡◌, List, [], ◌∷◌, ◌++◌, flat_map}
+use Rattle.std.specs.Prelude.{◌≡◌, ◌≢◌, ℕ, MatchBool, List, [], ◌∷◌, ◌++◌, flat_map, Option, Some, IfSome, Contains}
+use Rattle.std.specs.FinMap as map
+use Rattle.tree_model.specs.Disk.{Disk}
+use Rattle.tree_model.specs.Counted.{Counts}
+use Rattle.journal_model.specs.declared.commands.Actor.{Actor}
 use Rattle.journal_model.specs.declared.commands.Command.{Command}
+use Rattle.journal_model.specs.declared.commands.Command.TheVariants.{Recover}
+use Rattle.journal_model.specs.declared.entries.Order.{Order}
+use Rattle.journal_model.specs.declared.entries.Order.TheVariants.{Stop as StopOrder}
 use Rattle.script_text.specs.declared.script.Line.{Line}
-use Rattle.script_text.specs.declared.script.Line.TheVariants.{Do, All}
-use Rattle.vold_book.specs.Book.{BookState}
+use Rattle.script_text.specs.declared.script.Line.TheVariants.{Seed, Do, Turns, All, Stop, Restart}
+use Rattle.script_text.specs.Script.{is_stop, seed_of}
+use Rattle.vold_book.specs.declared.power.Phase.{Phase}
+use Rattle.vold_book.specs.declared.power.Phase.TheVariants.{Halted}
+use Rattle.vold_book.specs.Book.{BookState, IsWhole}
+use Rattle.vold_book.specs.Turns.{new_power}
+use Rattle.vold_run.specs.Calls.{CountsCalls}
+use Rattle.vold_run.specs.Fits.{ComesBy, LineFits, LinesFit, history_of, nothing}
 use Rattle.vold_run.specs.Rounds.{NothingLeft}
 
--- the command of a line, if it has one
+-- the command that a line gives, if it gives one: a restart gives a recovery
 abbrev pub command_of : Line → List Command
+command_of (Seed bytes) = []
 command_of (Do command) = command ∷ []
+command_of (Turns actor count) = []
 command_of All = []
+command_of (Stop cut) = []
+command_of (Restart level) = Recover ∷ []
 
 -- the commands of lines, in order
 abbrev pub commands_of : List Line → List Command
 commands_of lines = flat_map command_of lines
+
+-- the stop of a line that stops
+abbrev pub order_of : Line → List Order
+order_of (Seed bytes) = []
+order_of (Do command) = []
+order_of (Turns actor count) = []
+order_of All = []
+order_of (Stop cut) = StopOrder cut ∷ []
+order_of (Restart level) = []
+
+-- the stops of lines, in order
+abbrev pub orders_of : List Line → List Order
+orders_of lines = flat_map order_of lines
 
 -- a line that lets every actor work leaves nothing to do
 abbrev pub LeavesNothing : {D : Type 0} → Line → BookState D → Type 0
@@ -22,3 +52,71 @@ LeavesNothing line book = line ≡ All → NothingLeft book
 -- where the last line lets every actor work, nothing is left to do
 abbrev pub EndsIdle : {D : Type 0} → List Line → BookState D → Type 0
 EndsIdle lines book = (before : List Line) (last : Line) → lines ≡ before ++ last ∷ [] → LeavesNothing last book
+
+-- the line before the next one, where `before` stands before the first
+abbrev pub last_of : Option Line → List Line → Option Line
+last_of before [] = before
+last_of before (line ∷ lines) = last_of (Some line) lines
+
+-- the machine stands still exactly behind a line that stops it
+abbrev pub StandsStill : Option Line → Phase → Type 0
+StandsStill before phase = MatchBool (is_stop before) (phase ≡ Halted) (phase ≢ Halted)
+
+-- each number of a queue comes before those behind it
+abbrev pub IsInOrder : Actor → List ℕ → Type 0
+IsInOrder actor [] = Unit {0}
+IsInOrder actor (number ∷ numbers) = ((other : ℕ) → Contains numbers other → ComesBy actor number other) × IsInOrder actor numbers
+
+-- a Book between the lines of a script
+pub record IsBetweenLines {D : Type 0} (disk : D → Disk) (book : BookState D) : Type 0 where
+  pub whole : IsWhole disk book
+  pub level : book.power.level ≡ 1
+  pub order : (actor : Actor) → IfSome (map.get book.waiting actor) (IsInOrder actor)
+
+-- what turns leave of a Book: they give no command, and neither stop the machine nor start it again
+pub record IsKept {D : Type 0} (disk : D → Disk) (counts : D → Counts) (before after : BookState D) : Type 0 where
+  pub commands : after.commands ≡ before.commands
+  pub orders : after.orders ≡ before.orders
+  pub seed : after.seed ≡ before.seed
+  pub counted : CountsCalls counts before after
+  pub still : before.power.phase ≢ Halted → after.power.phase ≢ Halted
+  pub between : IsBetweenLines disk after
+
+-- the machine is as the line wants it: a restart wants it to stand still, each other line that it doesn't
+abbrev pub IsReadyFor : Line → Phase → Type 0
+IsReadyFor (Seed bytes) phase = phase ≢ Halted
+IsReadyFor (Do command) phase = phase ≢ Halted
+IsReadyFor (Turns actor count) phase = phase ≢ Halted
+IsReadyFor All phase = phase ≢ Halted
+IsReadyFor (Stop cut) phase = phase ≢ Halted
+IsReadyFor (Restart level) phase = phase ≡ Halted
+
+-- a line is done
+pub record IsLineDone {D : Type 0} (disk : D → Disk) (counts : D → Counts) (line : Line) (before after : BookState D) : Type 0 where
+  pub commands : after.commands ≡ before.commands ++ command_of line
+  pub orders : after.orders ≡ before.orders ++ order_of line
+  pub seed : after.seed ≡ before.seed
+  pub fits : LineFits line (history_of before) (history_of after)
+  pub counted : CountsCalls counts before after
+  pub idle : LeavesNothing line after
+  pub still : StandsStill (Some line) after.power.phase
+  pub between : IsBetweenLines disk after
+
+-- lines are done, where `prior` is the line before them
+pub record AreLinesDone {D : Type 0} (disk : D → Disk) (counts : D → Counts) (prior : Option Line) (lines : List Line) (before after : BookState D) : Type 0 where
+  pub commands : after.commands ≡ before.commands ++ commands_of lines
+  pub orders : after.orders ≡ before.orders ++ orders_of lines
+  pub seed : after.seed ≡ before.seed
+  pub fits : LinesFit lines (history_of before) (history_of after)
+  pub counted : CountsCalls counts before after
+  pub idle : EndsIdle lines after
+  pub still : StandsStill (last_of prior lines) after.power.phase
+  pub between : IsBetweenLines disk after
+
+-- a Book as it is opened for these lines, with nothing given out and nothing done
+pub record IsFresh {D : Type 0} (book : BookState D) (lines : List Line) : Type 0 where
+  pub history : history_of book ≡ nothing
+  pub waiting : book.waiting ≡ map.empty
+  pub orders : book.orders ≡ []
+  pub seed : book.seed ≡ seed_of lines
+  pub power : book.power ≡ new_power

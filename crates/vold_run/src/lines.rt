@@ -1,9 +1,8 @@
-ghost use Rattle.std.specs.Prelude.{◌≡◌, ◌≤◌, ◌+◌, ◌++◌, OnOk, OnErr, IsOk, length};
-ghost use Rattle.script_text.specs.Script.{most_lines};
+ghost use Rattle.std.specs.Prelude.{◌≢◌, ◌≤◌, ◌+◌, Err, IsOk, OnOk, length, None};
+ghost use Rattle.std.specs.List.{AllByRecursion};
+ghost use Rattle.script_text.specs.Script.{most_lines, IsLine, AreInOrder};
 ghost use Rattle.vold_book.specs.Book.{IsWhole};
-ghost use Rattle.vold_run.specs.Calls.{CountsCalls};
-ghost use Rattle.vold_run.specs.Fits.{LineFits, LinesFit, history_of};
-ghost use Rattle.vold_run.specs.Lines.{command_of, commands_of, EndsIdle, LeavesNothing};
+ghost use Rattle.vold_run.specs.Lines.{AreLinesDone, IsLineDone, IsBetweenLines, IsReadyFor, StandsStill};
 
 use crate::rounds;
 use journal_model::EnqueueFault;
@@ -12,18 +11,18 @@ use std::alloc::Global;
 use tree_model::{NoMemory, TreeDisk};
 use vold_book::Book;
 
-/// Does the lines on a Book, in order.
+/// Does the lines of a script on a Book, in order.
 pub fn do_lines<T: TreeDisk>(
     alloc: Global,
     book: &mut Book<T>,
     lines: &[Line],
 ) -> Result<(), NoMemory>
-    requires whole { IsWhole T.disk book.old }
+    requires between { IsBetweenLines T.disk book.old }
+    requires still { StandsStill None book.old.power.phase }
     requires few { length book.old.commands + length lines.now ≤ most_lines }
-    ensures commands { OnOk result (book.new.commands ≡ book.old.commands ++ commands_of lines.now) }
-    ensures fits { OnOk result (LinesFit lines.now (history_of book.old) (history_of book.new)) }
-    ensures counted { OnOk result (CountsCalls T.counts book.old book.new) }
-    ensures idle { OnOk result (EndsIdle lines.now book.new) }
+    requires lines { AllByRecursion IsLine lines.now }
+    requires order { AreInOrder None lines.now }
+    ensures done { OnOk result (AreLinesDone T.disk T.counts None lines.now book.old book.new) }
     ensures whole { IsWhole T.disk book.new }
 {
     for line in lines {
@@ -34,20 +33,31 @@ pub fn do_lines<T: TreeDisk>(
 
 /// Does one line.
 fn do_line<T: TreeDisk>(alloc: Global, book: &mut Book<T>, line: &Line) -> Result<(), NoMemory>
-    requires whole { IsWhole T.disk book.old }
+    requires between { IsBetweenLines T.disk book.old }
+    requires ready { IsReadyFor line.now book.old.power.phase }
     requires few { length book.old.commands + 1 ≤ most_lines }
-    ensures commands { OnOk result (book.new.commands ≡ book.old.commands ++ command_of line.now) }
-    ensures fits { OnOk result (LineFits line.now (history_of book.old) (history_of book.new)) }
-    ensures counted { OnOk result (CountsCalls T.counts book.old book.new) }
-    ensures idle { OnOk result (LeavesNothing line.now book.new) }
+    requires line { IsLine line.now }
+    ensures done { OnOk result (IsLineDone T.disk T.counts line.now book.old book.new) }
     ensures whole { IsWhole T.disk book.new }
 {
     match line {
-        Line::Do(command) => match book.enqueue(command.duplicate(alloc)?) {
-            Ok(_) => Ok(()),
-            Err(EnqueueFault::Full) => unreachable!(),
-            Err(EnqueueFault::NoMemory) => Err(NoMemory),
-        },
+        Line::Seed(_) => Ok(()),
+        Line::Do(command) => numbered(book.enqueue(command.duplicate(alloc)?)),
+        Line::Turns(actor, count) => rounds::turns(book, *actor, *count),
         Line::All => rounds::finish(book),
+        Line::Stop(cut) => book.stop(cut.duplicate(alloc)?),
+        Line::Restart(level) => numbered(book.restart(*level)),
+    }
+}
+
+/// That a command got its number, of which one was left.
+fn numbered(number: Result<u64, EnqueueFault>) -> Result<(), NoMemory>
+    requires left { number ≢ Err EnqueueFault.Full }
+    ensures given { IsOk result → IsOk number }
+{
+    match number {
+        Ok(_) => Ok(()),
+        Err(EnqueueFault::Full) => unreachable!(),
+        Err(EnqueueFault::NoMemory) => Err(NoMemory),
     }
 }

@@ -1,44 +1,62 @@
-ghost use Rattle.std.specs.Prelude.{◌≡◌, ◌<◌, ◌≤◌, None, OnOk, Some};
+ghost use Rattle.std.specs.Prelude.{◌<◌, false, true, None, IfOk, OnOk, Some};
 ghost use Rattle.vold_book.specs.Book.{IsWhole, turns_left};
 ghost use Rattle.vold_book.specs.Busy.{IsNextBusy};
-ghost use Rattle.vold_run.specs.Calls.{CountsCalls};
-ghost use Rattle.vold_run.specs.Fits.{AllFits, RoundFits, history_of};
-ghost use Rattle.vold_run.specs.Rounds.{NothingLeft};
+ghost use Rattle.vold_run.specs.Fits.{AllFits, TurnsOf, history_of};
+ghost use Rattle.vold_run.specs.Lines.{IsBetweenLines, IsKept};
+ghost use Rattle.vold_run.specs.Rounds.{NothingLeft, RoundEnds};
 
 use journal_model::Actor;
 use tree_model::{NoMemory, TreeDisk};
-use vold_book::Book;
+use vold_book::{Book, Turn};
 
-/// Makes rounds, in each of which every busy actor has one turn in the order of actors, until no actor is busy.
+/// Makes rounds, in each of which every busy actor has one turn in the order of actors, until the machine takes no turn of
+/// a busy actor.
 pub fn finish<T: TreeDisk>(book: &mut Book<T>) -> Result<(), NoMemory>
-    requires { IsWhole T.disk book.old }
+    requires { IsBetweenLines T.disk book.old }
     ensures fits { OnOk result (AllFits (history_of book.old) (history_of book.new)) }
     ensures idle { OnOk result (NothingLeft book.new) }
-    ensures counted { OnOk result (CountsCalls T.counts book.old book.new) }
-    ensures commands { book.new.commands ≡ book.old.commands }
+    ensures kept { OnOk result (IsKept T.disk T.counts book.old book.new) }
     ensures whole { IsWhole T.disk book.new }
 {
     while let Some(first) = book.first_busy() {
-        round(book, first)?;
+        if !round(book, first)? {
+            return Ok(());
+        }
     }
     Ok(())
 }
 
-/// Makes one round from a busy actor on, which leaves fewer turns.
-fn round<T: TreeDisk>(book: &mut Book<T>, first: Actor) -> Result<(), NoMemory>
-    requires whole { IsWhole T.disk book.old }
+/// Makes one round from the first busy actor on, which leaves fewer turns. The answer is false where the machine takes no
+/// turn of that actor, and then none of the others either.
+fn round<T: TreeDisk>(book: &mut Book<T>, first: Actor) -> Result<bool, NoMemory>
+    requires between { IsBetweenLines T.disk book.old }
     requires first { IsNextBusy book.old None (Some first) }
-    ensures fits { OnOk result (RoundFits (history_of book.old) (history_of book.new)) }
-    ensures counted { OnOk result (CountsCalls T.counts book.old book.new) }
-    ensures falls { OnOk result (turns_left T.disk book.new < turns_left T.disk book.old) }
-    ensures commands { book.new.commands ≡ book.old.commands }
+    ensures ended { IfOk result (RoundEnds T.disk book.old book.new) }
+    ensures kept { OnOk result (IsKept T.disk T.counts book.old book.new) }
     ensures whole { IsWhole T.disk book.new }
 {
-    book.advance(first)?;
+    let Turn::Went = book.advance(first)? else {
+        return Ok(false);
+    };
     let mut next = book.next_busy(first);
     while let Some(actor) = next {
-        book.advance(actor)?;
+        let Turn::Went = book.advance(actor)? else {
+            return Ok(true);
+        };
         next = book.next_busy(actor);
+    }
+    Ok(true)
+}
+
+/// Gives the actor so many turns, of which those do nothing that it can't make.
+pub fn turns<T: TreeDisk>(book: &mut Book<T>, actor: Actor, count: u32) -> Result<(), NoMemory>
+    requires { IsBetweenLines T.disk book.old }
+    ensures fits { OnOk result (TurnsOf actor count (history_of book.old) (history_of book.new)) }
+    ensures kept { OnOk result (IsKept T.disk T.counts book.old book.new) }
+    ensures whole { IsWhole T.disk book.new }
+{
+    for _ in 0..count {
+        book.advance(actor)?;
     }
     Ok(())
 }

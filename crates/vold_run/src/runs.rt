@@ -2,17 +2,17 @@ ghost use Rattle.std.specs.Prelude.{◌≡◌, ◌≢◌, ◌≤◌, ◌⊎◌, 
 ghost use Rattle.std.specs.FinMap as finite;
 ghost use Rattle.std.specs.Io.KnownBytes.{append_known};
 ghost use Rattle.std.specs.String.{string_bytes};
-ghost use Rattle.script_text.specs.Script.{most_lines};
+ghost use Rattle.script_text.specs.Script.{seed_of, IsPlaced};
 ghost use Rattle.script_text.specs.Status.{message_of};
 ghost use Rattle.vold_io.specs.Counted.{Rose};
 ghost use Rattle.vold_book.specs.Book.{IsWhole};
 ghost use Rattle.vold_book.specs.Turns.{new_book};
-ghost use Rattle.vold_run.specs.Fits.{history_of, nothing};
+ghost use Rattle.vold_run.specs.Lines.{IsFresh};
 ghost use Rattle.vold_run.specs.Input.{IsAccepted, IsRefused, RefusedCame, SomeScriptCame};
 ghost use Rattle.vold_run.specs.Ends.{HasMessage, InPlaceOf, IsDone, LinesEnd, RunPrints, Takes, WorkEnds, WritesFront};
 
 use crate::{input, lines, output};
-use script_text::{Line, Status};
+use script_text::{Line, Script, Status};
 use std::alloc::Global;
 use tree_model::{Bytes, NoMemory, TreeDisk};
 use vold_book::{Book, RunEnd};
@@ -36,17 +36,17 @@ pub fn run<S: Source, K: Sink, T: TreeDisk>(
     ensures bad_script { result.status ≡ Status.BadScript → (S.fault_count source.new ≡ S.fault_count source.old) × RefusedCame (S.rest source.old) (S.rest source.new) }
     ensures refused { IsAccepted (map string_bytes words.now) → ¬ (Rose (S.fault_count source.old) (S.fault_count source.new)) → IfSome (S.rest source.old) (λ told. IsRefused told → InPlaceOf Status.BadScript result.status) }
     ensures write_fault { result.status ≡ Status.WriteFault → Rose (K.fault_count sink.old) (K.fault_count sink.new) }
-    ensures done { result.status ≡ Status.Done → IsSomeAnd result.book (RunPrints T.disk T.counts (new_book tree []) (S.rest source.old) (S.rest source.new) (K.taken sink.old) (K.taken sink.new)) }
+    ensures done { result.status ≡ Status.Done → IsSomeAnd result.book (RunPrints T.disk T.counts (new_book tree) (S.rest source.old) (S.rest source.new) (K.taken sink.old) (K.taken sink.new)) }
     ensures message { HasMessage result.status → (K.taken sink.new ≡ append_known (K.taken sink.old) (message_of result.status)) × IsNone result.book }
-    ensures front { result.status ≡ Status.WriteFault → WritesFront T.disk T.counts (new_book tree []) (map string_bytes words.now) (S.rest source.old) (S.rest source.new) (S.fault_count source.old) (S.fault_count source.new) (K.taken sink.old) (K.taken sink.new) result.book }
-    ensures no_memory { result.status ≡ Status.NoMemory → (K.taken sink.new ≡ K.taken sink.old) ⊎ (WritesFront T.disk T.counts (new_book tree []) (map string_bytes words.now) (S.rest source.old) (S.rest source.new) (S.fault_count source.old) (S.fault_count source.new) (K.taken sink.old) (K.taken sink.new) result.book) }
+    ensures front { result.status ≡ Status.WriteFault → WritesFront T.disk T.counts (new_book tree) (map string_bytes words.now) (S.rest source.old) (S.rest source.new) (S.fault_count source.old) (S.fault_count source.new) (K.taken sink.old) (K.taken sink.new) result.book }
+    ensures no_memory { result.status ≡ Status.NoMemory → (K.taken sink.new ≡ K.taken sink.old) ⊎ (WritesFront T.disk T.counts (new_book tree) (map string_bytes words.now) (S.rest source.old) (S.rest source.new) (S.fault_count source.old) (S.fault_count source.new) (K.taken sink.old) (K.taken sink.new) result.book) }
     ensures book { IfSome result.book (λ _. IsAccepted (map string_bytes words.now) × SomeScriptCame (S.rest source.old) (S.rest source.new) × InPlaceOf Status.Done result.status) }
     ensures read { IsAccepted (map string_bytes words.now) → ¬ (Rose (S.fault_count source.old) (S.fault_count source.new)) → IfSome (S.rest source.old) (λ told. ¬ (IsRefused told) → IsSome result.book ⊎ (result.status ≡ Status.NoMemory)) }
     ensures complete { IsAccepted (map string_bytes words.now) → S.never_fails source.old → K.never_fails sink.old → IfSome (S.rest source.old) (λ told. ¬ (IsRefused told) → (result.status ≡ Status.Done) ⊎ (result.status ≡ Status.NoMemory)) }
     ensures whole { IfSome result.book (IsWhole T.disk) }
 {
     match input::script_of(alloc, words, source) {
-        Ok(script) => run_lines(alloc, script.lines(), sink, tree),
+        Ok(script) => run_script(alloc, &script, sink, tree),
         Err(status) => RunEnd {
             status: write(sink, status.message(), status),
             book: None,
@@ -54,34 +54,42 @@ pub fn run<S: Source, K: Sink, T: TreeDisk>(
     }
 }
 
-/// Does the lines on a new Book over the tree, and writes what shows it.
-fn run_lines<K: Sink, T: TreeDisk>(
+/// Does a script's lines on a new Book over the tree, and writes what shows it.
+fn run_script<K: Sink, T: TreeDisk>(
     alloc: Global,
-    lines: &[Line],
+    script: &Script,
     sink: &mut K,
     tree: T,
 ) -> RunEnd<T>
     requires empty { T.disk tree ≡ record { stable = finite.empty; pending = [] } }
-    requires few { length lines.now ≤ most_lines }
-    ensures ended { LinesEnd T.disk T.counts (new_book tree []) lines.now (K.taken sink.old) (K.taken sink.new) result.status result.book }
+    ensures ended { LinesEnd T.disk T.counts (new_book tree (seed_of script.now)) script.now (K.taken sink.old) (K.taken sink.new) result.status result.book }
     ensures faults { result.status ≡ Status.WriteFault → Rose (K.fault_count sink.old) (K.fault_count sink.new) }
     ensures steady { K.never_fails sink.old → result.status ≢ Status.WriteFault }
     ensures whole { IfSome result.book (IsWhole T.disk) }
 {
-    let seed = Bytes::from_vec(Vec::new(alloc));
-    match Book::open(alloc, tree, seed, 1) {
+    match opened(alloc, script.seed(), tree) {
         Err(NoMemory) => RunEnd {
             status: Status::NoMemory,
             book: None,
         },
         Ok(mut book) => {
-            let status = work(alloc, &mut book, lines, sink);
+            let status = work(alloc, &mut book, script.lines(), sink);
             RunEnd {
                 status,
                 book: Some(book),
             }
         }
     }
+}
+
+/// A new Book over the tree, with this seed.
+fn opened<T: TreeDisk>(alloc: Global, seed: &[u8], tree: T) -> Result<Book<T>, NoMemory>
+    requires empty { T.disk tree ≡ record { stable = finite.empty; pending = [] } }
+    requires short { length seed.now ≤ 64 }
+    ensures opened { IfOk result (λ book. book ≡ new_book tree seed.now) }
+    ensures whole { IfOk result (IsWhole T.disk) }
+{
+    Book::open(alloc, tree, Bytes::copy(alloc, seed)?, 1)
 }
 
 /// Does the lines on a new Book, and writes what shows it.
@@ -92,8 +100,8 @@ fn work<K: Sink, T: TreeDisk>(
     sink: &mut K,
 ) -> Status
     requires whole { IsWhole T.disk book.old }
-    requires fresh { history_of book.old ≡ nothing }
-    requires few { length lines.now ≤ most_lines }
+    requires fresh { IsFresh book.old lines.now }
+    requires placed { IsPlaced lines.now }
     ensures ended { WorkEnds T.disk T.counts book.old lines.now book.new (K.taken sink.old) (K.taken sink.new) result }
     ensures faults { result ≡ Status.WriteFault → Rose (K.fault_count sink.old) (K.fault_count sink.new) }
     ensures steady { K.never_fails sink.old → result ≢ Status.WriteFault }
@@ -108,8 +116,8 @@ fn work<K: Sink, T: TreeDisk>(
 /// Does the lines on a new Book, and answers the text that shows it.
 fn done<T: TreeDisk>(alloc: Global, book: &mut Book<T>, lines: &[Line]) -> Result<Bytes, NoMemory>
     requires whole { IsWhole T.disk book.old }
-    requires fresh { history_of book.old ≡ nothing }
-    requires few { length lines.now ≤ most_lines }
+    requires fresh { IsFresh book.old lines.now }
+    requires placed { IsPlaced lines.now }
     ensures done { IfOk result (IsDone T.disk T.counts book.old lines.now book.new) }
     ensures whole { IsWhole T.disk book.new }
 {

@@ -1,20 +1,23 @@
-use Rattle.std.proofs.Common.{rules, arith, subst}
-use Rattle.std.proofs.lemmas.List.{take_all}
-use Rattle.std.proofs.lemmas.Grind.{common_steps}
-use Rattle.vold_run.specs.Lines.{EndsIdle}
-use Rattle.vold_run.proofs.Counted.{counts-joined}
-use Rattle.vold_run.proofs.Turned.{next_line}
+use Rattle.std.proofs.Common.{get_or, take, sym, subst, arith}
+use Rattle.std.specs.Prelude.{None}
+use Rattle.vold_run.specs.Lines.{IsLineDone, IsReadyFor, last_of}
+use Rattle.vold_run.proofs.Placed.{ready-for, follows, next-line, few-more}
 use Rattle.vold_run.proofs.lines.do_lines.Goals as goal
 
-pub returns-clause-idle : goal.returns-clause-idle
-returns-clause-idle g c = subst (λ lines. EndsIdle lines c.loop-line.book) (take_all c.loop-line.line-index c.args.lines.now c.loop-line-test.false) c.loop-line.invariant.idle
+pub do_line-requires-clause-ready : goal.do_line-requires-clause-ready
+do_line-requires-clause-ready g c =
+    let lines = c.args.lines.now in
+    let i = c.loop-line.line-index in
+    subst (λ line. IsReadyFor line c.loop-line.book.power.phase) (sym c.line-item.is)
+    (ready-for (last_of None (take i lines)) (get_or lines i c.line-item.result) c.loop-line.book.power.phase (follows None lines i c.line-item.result c.loop-line-test.true c.requires.order) c.loop-line.invariant.done.still)
 
 pub loop-line-preserved : goal.loop-line-preserved
-loop-line-preserved g c = record {
-  commands = grind (arith, common_steps);
-  few = grind (arith, common_steps);
-  idle = grind (arith, common_steps);
-  fits = next_line c.args.lines.now c.loop-line.line-index _ _ _ _ c.loop-line-test.true c.loop-line.invariant.fits c.in_ok-do_line.ensures.fits;
-  counted = counts-joined g.T.TreeDisk.counts c.args.book.now c.loop-line.book c.do_line.new.book c.loop-line.invariant.counted c.in_ok-do_line.ensures.counted;
-  whole = search rules;
-}
+loop-line-preserved g c =
+    let lines = c.args.lines.now in
+    let before = c.loop-line.book in
+    let after = c.do_line.new.book in
+    let done = subst (λ line. IsLineDone g.T.TreeDisk.disk g.T.TreeDisk.counts line before after) c.line-item.is c.in_ok-do_line.ensures.done in
+    record {
+      done = next-line g.T.TreeDisk.disk g.T.TreeDisk.counts None lines c.loop-line.line-index c.line-item.result c.args.book.now before after c.loop-line-test.true c.loop-line.invariant.done done;
+      few = let one = few-more g.T.TreeDisk.disk g.T.TreeDisk.counts c.line-item.result before after c.in_ok-do_line.ensures.done in let few = c.loop-line.invariant.few in omega (arith, one, few);
+    }

@@ -1,15 +1,13 @@
-use Rattle.std.proofs.Common.{◌≡◌, ℕ}
-use Rattle.vold_book.specs.Book.{IsWhole, turns_left}
-use Rattle.vold_run.specs.Calls.{CountsCalls}
+use Rattle.std.proofs.Common.{ℕ}
+use Rattle.vold_book.specs.Book.{turns_left}
 use Rattle.vold_run.specs.Fits.{RoundsFit, history_of}
+use Rattle.vold_run.specs.Lines.{IsKept}
 use Rattle.vold_run.proofs.rounds.finish.Given as goal
 
 abbrev pub invariant-loop-first : goal.invariant-loop-first
 invariant-loop-first g l = record {
-  commands : l.book.commands ≡ l.fn.book.commands;
   rounds : (count : ℕ) × RoundsFit count (history_of l.fn.book) (history_of l.book);
-  counted : CountsCalls g.T.TreeDisk.counts l.fn.book l.book;
-  whole : IsWhole g.T.TreeDisk.disk l.book;
+  kept : IsKept g.T.TreeDisk.disk g.T.TreeDisk.counts l.fn.book l.book;
 }
 
 abbrev pub decreases-loop-first : goal.decreases-loop-first

@@ -1,32 +1,77 @@
-use Rattle.std.proofs.Common.{rules, subst}
+use Rattle.std.proofs.Common.{rules, arith, sym, subst, ◌<◌}
 use Rattle.std.specs.Prelude.{Some}
+use Rattle.vold_book.specs.Book.{turns_left}
 use Rattle.vold_run.specs.Fits.{history_of}
-use Rattle.vold_run.proofs.Counted.{answers-count, counts-joined}
-use Rattle.vold_run.proofs.Turned.{RoundGoes, round-begins, round-goes, round-ends}
+use Rattle.vold_run.proofs.Kept.{turn-kept, kept-joined}
+use Rattle.vold_run.proofs.Turned.{RoundGoes, went, waited, all-wait, round-begins, round-goes, round-ends, round-waits}
 use Rattle.vold_run.proofs.rounds.round.Goals as goal
 
+pub returns-in_default : goal.returns-in_default
+returns-in_default g c =
+    let before = c.args.book.now in
+    let after = c.advance.new.self in
+    let turn = c.in_ok-advance.field-0 in
+    let answers = c.in_ok-advance.ensures.turn in
+    record {
+      ended = all-wait g.T.TreeDisk.disk g.T.TreeDisk.counts before after c.args.first turn c.in_default.not-Went c.requires.first answers;
+      kept = turn-kept g.T.TreeDisk.disk g.T.TreeDisk.counts before after c.args.first turn c.requires.between answers c.in_ok-advance.ensures.whole;
+      whole = search rules;
+    }
+
 pub loop-next-init : goal.loop-next-init
-loop-next-init g c = record {
-  falls = search rules;
-  commands = search rules;
-  whole = search rules;
-  counted = answers-count g.T.TreeDisk.counts g.T.TreeDisk.disk c.args.book.now c.advance.new.self c.args.first c.in_ok-advance.field-0 c.in_ok-advance.ensures.turn;
-  goes = round-begins g.T.TreeDisk.disk g.T.TreeDisk.counts c.args.book.now c.advance.new.self c.args.first c.in_ok-advance.field-0 c.next_busy-next.result c.requires.whole c.requires.first c.in_ok-advance.ensures.turn c.next_busy-next.ensures;
-}
+loop-next-init g c =
+    let disk = g.T.TreeDisk.disk in
+    let counts = g.T.TreeDisk.counts in
+    let before = c.args.book.now in
+    let after = c.advance.new.self in
+    let turn = c.in_ok-advance.field-0 in
+    let answers = c.in_ok-advance.ensures.turn in
+    let goes = went disk counts before after c.args.first turn c.in-Went.is answers in
+    record {
+      falls = goes.falls;
+      kept = turn-kept disk counts before after c.args.first turn c.requires.between answers c.in_ok-advance.ensures.whole;
+      goes = round-begins disk counts before after c.args.first c.next_busy-next.result c.requires.between c.requires.first goes c.next_busy-next.ensures;
+    }
+
+pub returns-in_default-2 : goal.returns-in_default-2
+returns-in_default-2 g c =
+    let disk = g.T.TreeDisk.disk in
+    let counts = g.T.TreeDisk.counts in
+    let start = c.args.book.now in
+    let before = c.loop-next.book in
+    let after = c.advance-in-Some.new.self in
+    let turn = c.in_ok-advance-2.field-0 in
+    let answers = c.in_ok-advance-2.ensures.turn in
+    let kept = c.loop-next.invariant.kept in
+    let going : RoundGoes (history_of start) before (Some c.in-Some.actor) = subst (RoundGoes (history_of start) before) c.in-Some.is c.loop-next.invariant.goes in
+    record {
+      ended = (
+        round-waits disk counts (history_of start) before after c.in-Some.actor turn c.in_default-2.not-Went going kept.between answers,
+        subst (λ book. turns_left disk book < turns_left disk start) (sym (waited disk counts before after c.in-Some.actor turn c.in_default-2.not-Went going.coming.0 answers).1) c.loop-next.invariant.falls,
+      );
+      kept = kept-joined disk counts start before after kept (turn-kept disk counts before after c.in-Some.actor turn kept.between answers c.in_ok-advance-2.ensures.whole);
+      whole = search rules;
+    }
 
 pub loop-next-preserved : goal.loop-next-preserved
 loop-next-preserved g c =
-    let going : RoundGoes (history_of c.args.book.now) c.loop-next.book (Some c.in-Some.actor) = subst (RoundGoes (history_of c.args.book.now) c.loop-next.book) c.in-Some.is c.loop-next.invariant.goes in
-    let busy = going.coming.0 in
+    let disk = g.T.TreeDisk.disk in
+    let counts = g.T.TreeDisk.counts in
+    let start = c.args.book.now in
+    let before = c.loop-next.book in
+    let after = c.advance-in-Some.new.self in
+    let turn = c.in_ok-advance-2.field-0 in
+    let answers = c.in_ok-advance-2.ensures.turn in
+    let kept = c.loop-next.invariant.kept in
+    let going : RoundGoes (history_of start) before (Some c.in-Some.actor) = subst (RoundGoes (history_of start) before) c.in-Some.is c.loop-next.invariant.goes in
+    let goes = went disk counts before after c.in-Some.actor turn c.in-Went-2.is answers in
     record {
-      falls = search rules;
-      commands = search rules;
-      whole = search rules;
-      counted = counts-joined g.T.TreeDisk.counts c.args.book.now c.loop-next.book c.advance-in-Some.new.self c.loop-next.invariant.counted
-          (answers-count g.T.TreeDisk.counts g.T.TreeDisk.disk c.loop-next.book c.advance-in-Some.new.self c.in-Some.actor c.in_ok-advance-2.field-0 c.in_ok-advance-2.ensures.turn);
-      goes = round-goes g.T.TreeDisk.disk g.T.TreeDisk.counts (history_of c.args.book.now) c.loop-next.book c.advance-in-Some.new.self c.in-Some.actor c.in_ok-advance-2.field-0 c.next_busy-next-in-Some.result going c.loop-next.invariant.whole c.in_ok-advance-2.ensures.turn c.next_busy-next-in-Some.ensures;
+      falls = let less = goes.falls in let already = c.loop-next.invariant.falls in omega (arith, less, already);
+      kept = kept-joined disk counts start before after kept (turn-kept disk counts before after c.in-Some.actor turn kept.between answers c.in_ok-advance-2.ensures.whole);
+      goes = round-goes disk counts (history_of start) before after c.in-Some.actor c.next_busy-next-in-Some.result going kept.between goes c.next_busy-next-in-Some.ensures;
     }
 
-pub returns-clause-fits : goal.returns-clause-fits
-returns-clause-fits g c =
-    round-ends g.T.TreeDisk.disk g.T.TreeDisk.counts (history_of c.args.book.now) c.loop-next.book (subst (RoundGoes (history_of c.args.book.now) c.loop-next.book) c.in_default.is c.loop-next.invariant.goes) c.loop-next.invariant.whole
+pub returns-clause-ended : goal.returns-clause-ended
+returns-clause-ended g c =
+    let going = subst (RoundGoes (history_of c.args.book.now) c.loop-next.book) c.in_default-next.is c.loop-next.invariant.goes in
+    (round-ends g.T.TreeDisk.disk g.T.TreeDisk.counts (history_of c.args.book.now) c.loop-next.book going c.loop-next.invariant.kept.between, c.loop-next.invariant.falls)

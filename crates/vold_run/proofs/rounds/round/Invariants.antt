@@ -1,16 +1,14 @@
-use Rattle.std.proofs.Common.{◌≡◌, ◌<◌}
-use Rattle.vold_book.specs.Book.{IsWhole, turns_left}
-use Rattle.vold_run.specs.Calls.{CountsCalls}
+use Rattle.std.proofs.Common.{◌<◌}
+use Rattle.vold_book.specs.Book.{turns_left}
 use Rattle.vold_run.specs.Fits.{history_of}
+use Rattle.vold_run.specs.Lines.{IsKept}
 use Rattle.vold_run.proofs.Turned.{RoundGoes}
 use Rattle.vold_run.proofs.rounds.round.Given as goal
 
 abbrev pub invariant-loop-next : goal.invariant-loop-next
 invariant-loop-next g l = record {
   falls : turns_left g.T.TreeDisk.disk l.book < turns_left g.T.TreeDisk.disk l.fn.book;
-  commands : l.book.commands ≡ l.fn.book.commands;
-  counted : CountsCalls g.T.TreeDisk.counts l.fn.book l.book;
-  whole : IsWhole g.T.TreeDisk.disk l.book;
+  kept : IsKept g.T.TreeDisk.disk g.T.TreeDisk.counts l.fn.book l.book;
   goes : RoundGoes (history_of l.fn.book) l.book l.next;
 }
 

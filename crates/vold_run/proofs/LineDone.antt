@@ -1,0 +1,142 @@
+-- What each line of a script leaves of a Book.
+use Rattle.std.proofs.Common.{◌≡◌, ◌≢◌, ℕ, ◌+◌, min, List, [], ◌∷◌, ◌++◌, length, take, refl, sym, ap, ◌∙◌, subst, arith}
+use Rattle.std.proofs.lemmas.List.{append-nil}
+use Rattle.std.specs.Prelude.{Result, Ok, Err, IsOk, OnOk}
+use Rattle.tree_model.specs.declared.memory.NoMemory.{NoMemory}
+use Rattle.tree_model.specs.declared.ops.Cut.{Cut}
+use Rattle.tree_model.specs.Disk.{Disk}
+use Rattle.tree_model.specs.Tree.{changes_in}
+use Rattle.tree_model.specs.Counted.{Counts}
+use Rattle.journal_model.specs.declared.commands.Actor.{Actor}
+use Rattle.journal_model.specs.declared.commands.Command.{Command}
+use Rattle.journal_model.specs.declared.commands.EnqueueFault.{EnqueueFault}
+use Rattle.journal_model.specs.declared.commands.Command.TheVariants.{Create, Recover}
+use Rattle.journal_model.specs.declared.entries.Entry.TheVariants.{Restarted}
+use Rattle.journal_model.specs.Machine.{machine_after}
+use Rattle.script_text.specs.declared.script.Line.TheVariants.{Seed, Do, Turns, All, Stop, Restart}
+use Rattle.script_text.specs.Script.{IsLine}
+use Rattle.vold_book.specs.declared.power.Phase.TheVariants.{Down, Halted}
+use Rattle.vold_book.specs.Book.{BookState, IsWhole}
+use Rattle.vold_book.specs.Stops.{IsStopped, IsRestarted, survivors}
+use Rattle.vold_book.specs.Turns.{with_command, IsEnqueued}
+use Rattle.vold_run.specs.Fits.{AllFits, TurnsOf, history_of}
+use Rattle.vold_run.specs.Lines.{IsBetweenLines, IsKept, IsLineDone}
+use Rattle.vold_run.specs.Rounds.{NothingLeft}
+use Rattle.vold_run.proofs.Counted.{counts-same}
+use Rattle.vold_run.proofs.Kept.{AreInOrder}
+use Rattle.vold_run.proofs.Queued.{order-given, order-restarted}
+
+not_ok : (answer : Result ℕ EnqueueFault) (fault : EnqueueFault) → answer ≡ Err fault → ¬ (IsOk answer)
+not_ok (Ok number) fault is ok = cc
+not_ok (Err other) fault is ok = cc
+
+no-more : (keep count : ℕ) → keep ≡ 0 → min keep count ≡ 0
+no-more keep count is = omega (arith, is)
+
+down-runs : Down ≢ Halted
+down-runs e = cc
+
+module _ {D : Type 0} (disk : D → Disk) (counts : D → Counts) (before after : BookState D) (between : IsBetweenLines disk before) where
+  pub seed-done : (bytes : List ℕ) → before.power.phase ≢ Halted → after ≡ before → IsLineDone disk counts (Seed bytes) before after
+  seed-done bytes ready same = record {
+    commands = ap (λ b. b.commands) same ∙ sym (append-nil before.commands);
+    orders = ap (λ b. b.orders) same ∙ sym (append-nil before.orders);
+    seed = ap (λ b. b.seed) same;
+    fits = ap history_of same;
+    counted = counts-same counts before after (ap (λ b. counts b.tree) same) (ap (λ b. b.callers) same);
+    idle = λ is. cc;
+    still = subst (λ b. b.power.phase ≢ Halted) (sym same) ready;
+    between = subst (IsBetweenLines disk) (sym same) between;
+  }
+
+  pub command-done : (user : ℕ) → before.power.phase ≢ Halted → IsWhole disk after → after ≡ with_command before (Create user) → IsLineDone disk counts (Do (Create user)) before after
+  command-done user ready whole state = record {
+    commands = ap (λ b. b.commands) state;
+    orders = ap (λ b. b.orders) state ∙ sym (append-nil before.orders);
+    seed = ap (λ b. b.seed) state;
+    fits = ap history_of state;
+    counted = counts-same counts before after (ap (λ b. counts b.tree) state) (ap (λ b. b.callers) state);
+    idle = λ is. cc;
+    still = subst (λ b. b.power.phase ≢ Halted) (sym state) ready;
+    between = record {
+      whole = whole;
+      level = ap (λ b. b.power.level) state ∙ between.level;
+      order = subst (λ b. AreInOrder b.waiting) (sym state) (order-given before.entries before.commands before.waiting between.whole.parts.numbers between.order user);
+    };
+  }
+
+  pub turns-done : (actor : Actor) (count : ℕ) → before.power.phase ≢ Halted → TurnsOf actor count (history_of before) (history_of after) → IsKept disk counts before after → IsLineDone disk counts (Turns actor count) before after
+  turns-done actor count ready fits kept = record {
+    commands = kept.commands ∙ sym (append-nil before.commands);
+    orders = kept.orders ∙ sym (append-nil before.orders);
+    seed = kept.seed;
+    fits = fits;
+    counted = kept.counted;
+    idle = λ is. cc;
+    still = kept.still ready;
+    between = kept.between;
+  }
+
+  pub all-done : before.power.phase ≢ Halted → AllFits (history_of before) (history_of after) → NothingLeft after → IsKept disk counts before after → IsLineDone disk counts All before after
+  all-done ready fits idle kept = record {
+    commands = kept.commands ∙ sym (append-nil before.commands);
+    orders = kept.orders ∙ sym (append-nil before.orders);
+    seed = kept.seed;
+    fits = fits;
+    counted = kept.counted;
+    idle = λ is. idle;
+    still = kept.still ready;
+    between = kept.between;
+  }
+
+  -- where no operation is kept, no further change is
+  none-survive : (keep : ℕ) → keep ≡ 0 → survivors disk before keep ≡ (machine_after before.entries).kept
+  none-survive keep is =
+      let pending = (disk before.tree).pending in
+      let none : changes_in (disk before.tree).stable (take (min keep (length pending)) pending) ≡ 0 = ap (λ n. changes_in (disk before.tree).stable (take n pending)) (no-more keep (length pending) is) in
+      omega (arith, none)
+
+  pub stop-done : (cut : Cut) → IsWhole disk after → IsStopped disk counts before after cut → IsLineDone disk counts (Stop cut) before after
+  stop-done cut whole stopped = record {
+    commands = ap (λ b. b.commands) stopped.state ∙ sym (append-nil before.commands);
+    orders = ap (λ b. b.orders) stopped.state;
+    seed = ap (λ b. b.seed) stopped.state;
+    fits = record { kept = survivors disk before cut.keep; left = ap history_of stopped.state; none = λ is. none-survive cut.keep is };
+    counted = counts-same counts before after stopped.same_counts (ap (λ b. b.callers) stopped.state);
+    idle = λ is. cc;
+    still = ap (λ b. b.power.phase) stopped.state;
+    between = record {
+      whole = whole;
+      level = ap (λ b. b.power.level) stopped.state ∙ between.level;
+      order = subst (λ b. AreInOrder b.waiting) (sym stopped.state) between.order;
+    };
+  }
+
+  pub restart-done : (level : ℕ) → level ≡ 1 → IsWhole disk after → IsRestarted disk counts before after level → IsLineDone disk counts (Restart level) before after
+  restart-done level one whole restarted = record {
+    commands = ap (λ b. b.commands) restarted.state;
+    orders = ap (λ b. b.orders) restarted.state ∙ sym (append-nil before.orders);
+    seed = ap (λ b. b.seed) restarted.state;
+    fits = ap history_of restarted.state ∙ ap (λ boot. record { commands = before.commands ++ Recover ∷ []; entries = before.entries ++ Restarted (boot + 1) level ∷ []; calls = before.callers }) (sym between.whole.agrees.boot);
+    counted = counts-same counts before after restarted.same_counts (ap (λ b. b.callers) restarted.state);
+    idle = λ is. cc;
+    still = λ halted. down-runs (sym (ap (λ b. b.power.phase) restarted.state) ∙ halted);
+    between = record {
+      whole = whole;
+      level = ap (λ b. b.power.level) restarted.state ∙ one;
+      order = subst (λ b. AreInOrder b.waiting) (sym restarted.state) (order-restarted before.entries before.commands before.waiting between.whole.parts.numbers between.order);
+    };
+  }
+
+  -- where a command got its number
+  pub given-done : (command : Command) → IsLine (Do command) → before.power.phase ≢ Halted → IsWhole disk after → (answer : Result ℕ EnqueueFault) → IsEnqueued before after command answer → (result : Result (Unit {0}) NoMemory) → (IsOk result → IsOk answer) → OnOk result (IsLineDone disk counts (Do command) before after)
+  given-done command line ready whole answer enqueued (Err fault) given = tt
+  given-done (Create user) line ready whole (Ok number) enqueued (Ok done) given = command-done user ready whole enqueued.2
+  given-done Recover line ready whole (Ok number) enqueued (Ok done) given = absurd line
+  given-done command line ready whole (Err fault) enqueued (Ok done) given = absurd (not_ok (Err fault) fault refl (given refl))
+
+  -- where a restart's recovery got its number
+  pub begun-done : (level : ℕ) → level ≡ 1 → IsWhole disk after → (answer : Result ℕ EnqueueFault) → OnOk answer (IsRestarted disk counts before after level) → (result : Result (Unit {0}) NoMemory) → (IsOk result → IsOk answer) → OnOk result (IsLineDone disk counts (Restart level) before after)
+  begun-done level one whole answer restarted (Err fault) given = tt
+  begun-done level one whole (Ok number) restarted (Ok done) given = restart-done level one whole restarted
+  begun-done level one whole (Err fault) restarted (Ok done) given = absurd (not_ok (Err fault) fault refl (given refl))
