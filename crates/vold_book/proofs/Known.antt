@@ -19,7 +19,7 @@ use Rattle.tree_model.specs.declared.ops.Op.{Op}
 use Rattle.tree_model.specs.declared.ops.Op.TheVariants.{MakeDir, RenameDir, RemoveDir}
 use Rattle.tree_model.specs.Order.{place_cmp, place_total, place_exact}
 use Rattle.vold_book.specs.Create.{IsInTheWay}
-use Rattle.vold_book.specs.Places.{places_of, places_after_op, IsSlotOf}
+use Rattle.vold_book.specs.Places.{PlaceMap, places_of, places_after_op, IsSlotOf, NoneBelow, IsNextInTheWay, IsFirstInTheWay}
 
 pub follow-made : (before after : Sorted Place (Unit {0})) (op : Op) (place : Place) → op ≡ MakeDir place → IsSorted place_cmp before.rows → after.rows ≡ put place_cmp place tt before.rows
     → places_of after ≡ places_after_op (places_of before) op
@@ -50,20 +50,27 @@ lt_less Less e = refl
 lt_less Equal e = cc
 lt_less Greater e = cc
 
-eq_equal : (r : Ordering) → is_eq r ≡ true → r ≡ Equal
+pub eq_equal : (r : Ordering) → is_eq r ≡ true → r ≡ Equal
 eq_equal Less e = cc
 eq_equal Equal e = refl
 eq_equal Greater e = cc
 
-first : (a b : Bool) → (a && b) ≡ true → a ≡ true
+pub first : (a b : Bool) → (a && b) ≡ true → a ≡ true
 first true b e = refl
 first false b e = e
 
-second : (a b : Bool) → (a && b) ≡ true → b ≡ true
+pub second : (a b : Bool) → (a && b) ≡ true → b ≡ true
 second true b e = e
 second false b e = cc
 
-below-find : {V : Type 0} (low q : Place) (rows : List (Place × V)) → below_all place_cmp low rows ≡ true → IsSome (find place_cmp q rows) → place_cmp low q ≡ Less
+-- of two places each can't be the lower
+pub not_both : (a b : Place) → place_cmp a b ≡ Less → place_cmp b a ≡ Less → ⊥
+not_both a b less back = let h : Less ≡ ordering_reverse Less = sym less ∙ place_total.antisymm a b ∙ ap ordering_reverse back in let z : Less ≡ Greater = h in cc
+
+not_tied : (a b : Place) → place_cmp a b ≡ Less → place_cmp b a ≡ Equal → ⊥
+not_tied a b less back = let h : Less ≡ ordering_reverse Equal = sym less ∙ place_total.antisymm a b ∙ ap ordering_reverse back in let z : Less ≡ Equal = h in cc
+
+pub below-find : {V : Type 0} (low q : Place) (rows : List (Place × V)) → below_all place_cmp low rows ≡ true → IsSome (find place_cmp q rows) → place_cmp low q ≡ Less
 below-find low q [] below there = cc
 below-find {V} low q (row ∷ rows) below there =
     elim (eq_by_cmp place_cmp q row.0) as (λ t. eq_by_cmp place_cmp q row.0 ≡ t → IsSome (cond t (Some row.1) (find place_cmp q rows)) → place_cmp low q ≡ Less) [
@@ -134,6 +141,9 @@ between user n (Ce other slot) above below =
       | Greater ↦ λ e. absurd (let h = rw e at above in let z : Greater ≡ Less = h in cc)
     ] refl
 
+current_first : (u m : ℕ) → place_cmp (Ce u Current) (Ce u (Cx m)) ≡ Less
+current_first u m = let same : nat_cmp u u ≡ Equal = eq_equal (nat_cmp u u) (tied nat_cmp_total nat_cmp-IsAntisymmetric u u refl) in rw same refl
+
 no_other_slot : (places : Sorted Place (Unit {0})) (user n : ℕ) → IsSorted place_cmp places.rows
     → ((slot : Slot) → next_after place_cmp (Some (Ce user Current)) places.rows ≡ Some (Ce user slot) → ⊥) → ¬ (IsSome (find place_cmp (Ce user (Cx n)) places.rows))
 no_other_slot places user n sorted none there =
@@ -142,9 +152,6 @@ no_other_slot places user n sorted none there =
       | None ↦ λ e h. absurd h
       | Some k ↦ λ e h. let own = between user n k h.0 h.1 in none own.0 (e ∙ ap Some own.1)
     ] refl (next-least (Ce user Current) (Ce user (Cx n)) places.rows sorted there (current_first user n))
-  where
-    current_first : (u m : ℕ) → place_cmp (Ce u Current) (Ce u (Cx m)) ≡ Less
-    current_first u m = let same : nat_cmp u u ≡ Equal = eq_equal (nat_cmp u u) (tied nat_cmp_total nat_cmp-IsAntisymmetric u u refl) in rw same refl
 
 -- nothing is in a user's way where neither the temporary place nor the current one is known, nor another slot next to it
 pub clear-of : (places : Sorted Place (Unit {0})) (user : ℕ) → IsSorted place_cmp places.rows → ¬ (IsSome (find place_cmp (Temp user) places.rows)) → ¬ (IsSome (find place_cmp (Ce user Current) places.rows))
@@ -170,10 +177,45 @@ slot-way user (De other) own = absurd own
 slot-way user (Ce other slot) own = own
 slot-way user (Temp other) own = absurd own
 
--- a slot of the user's next to the current one is in the way
-pub slot_in_the_way : (places : Sorted Place (Unit {0})) (user : ℕ) (next : Place) → IsSorted place_cmp places.rows → next_after place_cmp (Some (Ce user Current)) places.rows ≡ Some next → IsSlotOf user next
-    → IsInTheWay user next × IsSome (map.get (places_of places) next)
-slot_in_the_way places user next sorted is own = (slot-way user next own, known_place places next sorted (next-there (Ce user Current) next places.rows is))
+-- no slot of the user's is below the current one
+pub none-below-current : (places : PlaceMap) (user : ℕ) → NoneBelow places (IsSlotOf user) (Ce user Current)
+none-below-current places user (De other) there less own = absurd own
+none-below-current places user (Ce other Current) there less own =
+    less_equal (sym less ∙ ap (λ u. place_cmp (Ce u Current) (Ce user Current)) own ∙ eq_equal _ (tied place_total place_exact (Ce user Current) (Ce user Current) refl))
+  where
+    less_equal : Less ≡ Equal → ⊥
+    less_equal e = cc
+none-below-current places user (Ce other (Cx n)) there less own = not_both (Ce user (Cx n)) (Ce user Current) (subst (λ u. place_cmp (Ce u (Cx n)) (Ce user Current) ≡ Less) own less) (current_first user n)
+none-below-current places user (Temp other) there less own = absurd own
+
+-- none is below the one next to it, where the current one isn't there
+none-below-next : (places : Sorted Place (Unit {0})) (user : ℕ) (next : Place) → IsSorted place_cmp places.rows → ¬ (IsSome (find place_cmp (Ce user Current) places.rows))
+    → next_after place_cmp (Some (Ce user Current)) places.rows ≡ Some next → NoneBelow (places_of places) (IsSlotOf user) next
+none-below-next places user next sorted no_current is (De other) there less own = absurd own
+none-below-next places user next sorted no_current is (Ce other Current) there less own =
+    no_current (subst IsSome (get-places places (Ce user Current) sorted) (subst (λ u. IsSome (map.get (places_of places) (Ce u Current))) own there))
+none-below-next places user next sorted no_current is (Ce other (Cx n)) there less own =
+    let found : IsSome (find place_cmp (Ce user (Cx n)) places.rows) = subst IsSome (get-places places (Ce user (Cx n)) sorted) (subst (λ u. IsSome (map.get (places_of places) (Ce u (Cx n)))) own there) in
+    let lower : place_cmp (Ce user (Cx n)) next ≡ Less = subst (λ u. place_cmp (Ce u (Cx n)) next ≡ Less) own less in
+    let least = subst (λ k. IsSomeAnd k (λ k. (place_cmp (Ce user Current) k ≡ Less) × ((place_cmp k (Ce user (Cx n)) ≡ Less) ⊎ (place_cmp k (Ce user (Cx n)) ≡ Equal)))) is
+    (next-least (Ce user Current) (Ce user (Cx n)) places.rows sorted found (current_first user n)) in
+    elim least.1 [ inl l ↦ not_both (Ce user (Cx n)) next lower l | inr e ↦ not_tied (Ce user (Cx n)) next lower e ]
+none-below-next places user next sorted no_current is (Temp other) there less own = absurd own
+
+-- a slot of the user's is the next in the way where no temporary place is known and no lower slot
+pub next-slot : (places : PlaceMap) (user : ℕ) (place : Place) → IsSlotOf user place → map.get places (Temp user) ≡ None → NoneBelow places (IsSlotOf user) place → IsNextInTheWay places user place
+next-slot places user (De other) own no_temp below = absurd own
+next-slot places user (Ce other slot) own no_temp below = (no_temp, below)
+next-slot places user (Temp other) own no_temp below = absurd own
+
+-- a slot of the user's next to the current one is in the way, and the first where neither this one is known nor the temporary place
+pub slot_in_the_way : (places : Sorted Place (Unit {0})) (user : ℕ) (next : Place) → IsSorted place_cmp places.rows → ¬ (IsSome (find place_cmp (Temp user) places.rows)) → ¬ (IsSome (find place_cmp (Ce user Current) places.rows))
+    → next_after place_cmp (Some (Ce user Current)) places.rows ≡ Some next → IsSlotOf user next → IsFirstInTheWay (places_of places) user (Some next)
+slot_in_the_way places user next sorted no_temp no_current is own = (
+  slot-way user next own,
+  known_place places next sorted (next-there (Ce user Current) next places.rows is),
+  next-slot (places_of places) user next own (absent_place places (Temp user) sorted no_temp) (none-below-next places user next sorted no_current is),
+)
 
 pub no_slot : (user : ℕ) (next : Option Place) (other : Place) → next ≡ Some other → ¬ (IsSlotOf user other) → (slot : Slot) → next ≡ Some (Ce user slot) → ⊥
 no_slot user next other is apart slot e = let same : other ≡ Ce user slot = cc in apart (subst (IsSlotOf user) (sym same) refl)

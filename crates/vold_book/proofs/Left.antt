@@ -2,9 +2,8 @@
 use Rattle.std.proofs.Common.{◌≡◌, ◌<◌, ◌≤◌, zero, suc, ℕ, ◌+◌, Bool, true, false, cond, T, List, [], ◌∷◌, ◌++◌, length, get_or, take, refl, sym, ap, ◌∙◌, subst, arith}
 use Rattle.std.specs.Prelude.{Option, Some, None, IsSome, is_some, IsTrue, ◌↔◌, not, ◌&&◌}
 use Rattle.std.specs.List.{zip, list_any}
-use Rattle.std.specs.declared.cmp.Ordering.{Ordering}
-use Rattle.std.specs.declared.cmp.Ordering.TheVariants.{Less, Equal, Greater}
-use Rattle.std.specs.Ordering.{is_eq, eq_by_cmp}
+use Rattle.std.specs.declared.cmp.Ordering.TheVariants.{Less, Equal}
+use Rattle.std.specs.Ordering.{eq_by_cmp}
 use Rattle.std.specs.FinMap as map
 use Rattle.std.specs.FinMap.{contains_key-keys, entries_sorted}
 use Rattle.std.specs.FinMap.Entries.{find, is_some-find, is_sorted, below_all}
@@ -16,8 +15,9 @@ use Rattle.tree_model.specs.declared.places.Place.{Place}
 use Rattle.tree_model.specs.declared.places.Place.TheVariants.{De}
 use Rattle.tree_model.specs.Order.{place_cmp, place_total, place_exact}
 use Rattle.tree_model.specs.Tree.{Tree}
-use Rattle.vold_book.specs.Places.{places_of, KnowsPlaces}
+use Rattle.vold_book.specs.Places.{places_of, KnowsPlaces, NoneBelow}
 use Rattle.vold_book.specs.Recover.{NoneLeft}
+use Rattle.vold_book.proofs.Known.{eq_equal, first, second, below-find, not_both}
 
 -- none of the places is such a one
 abbrev pub NoneIn : (Place → Type 0) → List Place → Type 0
@@ -30,11 +30,6 @@ none_in-append Left (first ∷ places) place none one = (none.0, none_in-append 
 
 pub none_in-more : (Left : Place → Type 0) (places : List Place) (i : ℕ) (default : Place) → i < length places → NoneIn Left (take i places) → ¬ (Left (get_or places i default)) → NoneIn Left (take (i + 1) places)
 none_in-more Left places i default within none one = subst (NoneIn Left) (sym (take_more places i default within)) (none_in-append Left (take i places) (get_or places i default) none one)
-
-eq_equal : (r : Ordering) → is_eq r ≡ true → r ≡ Equal
-eq_equal Less e = cc
-eq_equal Equal e = refl
-eq_equal Greater e = cc
 
 -- a key that is found is none of those
 contained : {V : Type 0} (Left : Place → Type 0) (place : Place) (rows : List (Place × V)) → NoneIn Left (keys rows) → IsSome (find place_cmp place rows) → ¬ (Left place)
@@ -66,6 +61,31 @@ found-left places items i default sorted is within =
     subst IsSome (sym (get-rows place_cmp places.rows sorted (get_or items i default)))
     (key-found places.rows i default (get_or items i default) (subst (λ ks. i < length ks) is within) (ap (λ ks. get_or ks i default) is))
 
+less_equal : Less ≡ Equal → ⊥
+less_equal e = cc
+
+-- a found key that is lower than one of the keys stands before it
+none-below : (Kind : Place → Type 0) (rows : List (Place × Unit {0})) (i : ℕ) (default : Place) → is_sorted place_cmp rows ≡ true → i < length (keys rows) → NoneIn Kind (take i (keys rows))
+    → (other : Place) → IsSome (find place_cmp other rows) → place_cmp other (get_or (keys rows) i default) ≡ Less → ¬ (Kind other)
+none-below Kind [] i default sorted within none other there less kind = absurd (omega (arith, within))
+none-below Kind (row ∷ rows) zero default sorted within none other there less kind =
+    elim (eq_by_cmp place_cmp other row.0) as (λ t. eq_by_cmp place_cmp other row.0 ≡ t → IsSome (cond t (Some row.1) (find place_cmp other rows)) → ⊥) [
+      | true ↦ λ e h. less_equal (sym less ∙ eq_equal (place_cmp other row.0) e)
+      | false ↦ λ e h. not_both other row.0 less (below-find row.0 other rows (first _ _ sorted) h)
+    ] refl there
+none-below Kind (row ∷ rows) (suc i) default sorted within none other there less kind =
+    elim (eq_by_cmp place_cmp other row.0) as (λ t. eq_by_cmp place_cmp other row.0 ≡ t → IsSome (cond t (Some row.1) (find place_cmp other rows)) → ⊥) [
+      | true ↦ λ e h. none.0 (subst Kind (place_exact other row.0 (eq_equal (place_cmp other row.0) e)) kind)
+      | false ↦ λ e h. none-below Kind rows i default (second _ _ sorted) (omega (arith, within)) none.1 other h less kind
+    ] refl there
+
+-- and none lower is such a one
+pub found-below : (Kind : Place → Type 0) (places : Sorted Place (Unit {0})) (items : List Place) (i : ℕ) (default : Place) → IsSorted place_cmp places.rows → items ≡ keys places.rows → i < length items → NoneIn Kind (take i items)
+    → NoneBelow (places_of places) Kind (get_or items i default)
+found-below Kind places items i default sorted is within none other there less =
+    none-below Kind places.rows i default sorted (subst (λ ks. i < length ks) is within) (subst (λ ks. NoneIn Kind (take i ks)) is none) other
+    (subst IsSome (get-rows place_cmp places.rows sorted other) there) (subst (λ ks. place_cmp other (get_or ks i default) ≡ Less) is less)
+
 -- a user isn't there exactly where the test says no
 pub debris-iff : (places : Sorted Place (Unit {0})) (user : ℕ) (found : Bool) → IsSorted place_cmp places.rows → (IsTrue found ↔ IsSome (find place_cmp (De user) places.rows)) → IsTrue (not found) ↔ (map.get (places_of places) (De user) ≡ None)
 debris-iff places user true sorted iff = (λ e. cc, λ none. absurd (no_some (iff.0 refl) (sym (get-rows place_cmp places.rows sorted (De user)) ∙ none)))
@@ -85,14 +105,6 @@ both : (a b : Bool) → a ≡ true → b ≡ true → (a && b) ≡ true
 both true true p q = refl
 both true false p q = q
 both false b p q = p
-
-first : (a b : Bool) → (a && b) ≡ true → a ≡ true
-first true b p = refl
-first false b p = p
-
-second : (a b : Bool) → (a && b) ≡ true → b ≡ true
-second true b p = p
-second false b p = cc
 
 -- the order of rows is that of their keys
 below-zip : {V : Type 0} (key : Place) (rows : List (Place × V)) (units : List (Unit {0})) → below_all place_cmp key rows ≡ true → below_all place_cmp key (zip (keys rows) units) ≡ true

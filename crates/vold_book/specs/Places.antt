@@ -1,5 +1,6 @@
 -- The places of the view, as they are known without a call: how they follow the calls, and what of them is in the way.
 use Rattle.std.specs.Prelude.{◌≡◌, ℕ, Option, Some, None, IsSome, is_some}
+use Rattle.std.specs.declared.cmp.Ordering.TheVariants.{Less}
 use Rattle.std.specs.FinMap as map
 use Rattle.sorted_map.specs.Rows.{Sorted}
 use Rattle.tree_model.specs.declared.places.Place.{Place}
@@ -42,7 +43,17 @@ IsSlotOf user (De other) = ⊥
 IsSlotOf user (Ce other slot) = other ≡ user
 IsSlotOf user (Temp other) = ⊥
 
--- a place that is there and in the user's way, and none exactly where there is none
+-- no lower place that is there is such a one
+abbrev pub NoneBelow : PlaceMap → (Place → Type 0) → Place → Type 0
+NoneBelow places Kind place = (other : Place) → IsSome (map.get places other) → place_cmp other place ≡ Less → ¬ (Kind other)
+
+-- the temporary place is cleared before those of credential keys, and these are in order
+abbrev pub IsNextInTheWay : PlaceMap → ℕ → Place → Type 0
+IsNextInTheWay places user (De other) = ⊥
+IsNextInTheWay places user (Ce other slot) = (map.get places (Temp user) ≡ None) × NoneBelow places (IsSlotOf user) (Ce other slot)
+IsNextInTheWay places user (Temp other) = Unit {0}
+
+-- the first place that is there and in the user's way, and none exactly where there is none
 abbrev pub IsFirstInTheWay : PlaceMap → ℕ → Option Place → Type 0
 IsFirstInTheWay places user None = (place : Place) → IsInTheWay user place → map.get places place ≡ None
-IsFirstInTheWay places user (Some place) = IsInTheWay user place × IsSome (map.get places place)
+IsFirstInTheWay places user (Some place) = IsInTheWay user place × IsSome (map.get places place) × IsNextInTheWay places user place

@@ -12,7 +12,7 @@ use Rattle.vold_book.specs.declared.tasks.Recovery.{Recovery}
 use Rattle.vold_book.specs.declared.tasks.Recovery.TheVariants.{List, Remove, Sync}
 use Rattle.vold_book.specs.declared.tasks.Task.{Task}
 use Rattle.vold_book.specs.declared.tasks.Task.TheVariants.{Recover as Recovering, Reply as Replying}
-use Rattle.vold_book.specs.Places.{PlaceMap, KnowsPlaces}
+use Rattle.vold_book.specs.Places.{PlaceMap, KnowsPlaces, NoneBelow}
 
 abbrev pub IsTemporary : Place → Type 0
 IsTemporary (De user) = ⊥
@@ -35,10 +35,16 @@ IsLeft places (Temp user) = Unit {0}
 abbrev pub NoneLeft : PlaceMap → (Place → Type 0) → Type 0
 NoneLeft places Left = (place : Place) → IsSome (map.get places place) → ¬ (Left place)
 
--- a place that is there and has to be removed, and none exactly where there is none
+-- the temporary places are removed before those of credential keys, and each are in order
+abbrev pub IsNextLeft : PlaceMap → Place → Type 0
+IsNextLeft places (De user) = ⊥
+IsNextLeft places (Ce user slot) = NoneLeft places IsTemporary × NoneBelow places (IsDebris places) (Ce user slot)
+IsNextLeft places (Temp user) = NoneBelow places IsTemporary (Temp user)
+
+-- the first place that is there and has to be removed, and none exactly where there is none
 abbrev pub IsFirstLeft : PlaceMap → Option Place → Type 0
 IsFirstLeft places None = NoneLeft places (IsLeft places)
-IsFirstLeft places (Some place) = IsLeft places place × IsSome (map.get places place)
+IsFirstLeft places (Some place) = IsLeft places place × IsSome (map.get places place) × IsNextLeft places place
 
 -- what a recovery does once nothing is left, and else
 abbrev pub recovery_task : Option Place → Bool → Task

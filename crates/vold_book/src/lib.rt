@@ -11,6 +11,8 @@ pub mod recoveries;
 pub mod run_end;
 pub mod standings;
 pub mod tasks;
+#[cfg(test)]
+mod tests;
 pub mod turns;
 pub mod waiting;
 

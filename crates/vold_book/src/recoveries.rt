@@ -3,7 +3,7 @@ ghost use Rattle.std.specs.FinMap as map;
 ghost use Rattle.tree_model.specs.Counted.{IsCounted};
 ghost use Rattle.tree_model.specs.Disk.{view};
 ghost use Rattle.vold_book.specs.Calls.{as_answer};
-ghost use Rattle.vold_book.specs.Places.{places_of};
+ghost use Rattle.vold_book.specs.Places.{places_of, NoneBelow};
 ghost use Rattle.vold_book.specs.Recover.{IsTemporary, IsDebris, IsFirstLeft, NoneLeft, recovery_task, IsRecovered, RecoveryFits};
 
 use crate::calls::{self, Call};
@@ -38,7 +38,7 @@ pub fn first_left(places: &Places) -> Option<Place>
 
 /// The first temporary place.
 fn first_temporary(places: &Places) -> Option<Place>
-    ensures { MatchOption result (NoneLeft (places_of places.now) IsTemporary) (λ place. IsTemporary place × IsSome (map.get (places_of places.now) place)) }
+    ensures { MatchOption result (NoneLeft (places_of places.now) IsTemporary) (λ place. IsTemporary place × IsSome (map.get (places_of places.now) place) × NoneBelow (places_of places.now) IsTemporary place) }
 {
     for place in places.keys() {
         if is_temporary(*place) {
@@ -59,7 +59,7 @@ fn is_temporary(place: Place) -> bool
 
 /// The first place of a credential key whose user isn't there.
 fn first_debris(places: &Places) -> Option<Place>
-    ensures { MatchOption result (NoneLeft (places_of places.now) (IsDebris (places_of places.now))) (λ place. IsDebris (places_of places.now) place × IsSome (map.get (places_of places.now) place)) }
+    ensures { MatchOption result (NoneLeft (places_of places.now) (IsDebris (places_of places.now))) (λ place. IsDebris (places_of places.now) place × IsSome (map.get (places_of places.now) place) × NoneBelow (places_of places.now) (IsDebris (places_of places.now)) place) }
 {
     for place in places.keys() {
         if is_debris(places, *place) {
