@@ -2,11 +2,12 @@ ghost use Rattle.std.specs.Prelude.{◌≡◌, IfOk};
 ghost use Rattle.tree_memory.specs.Medium.{empty_disk};
 
 use crate::run;
-use journal_model::{Actor, Command, Reply};
+use journal_model::{Actor, Command, Reply, fold};
 use std::alloc::Global;
+use std::process::Abort;
 use std::test::Fail;
 use tree_memory::MemTree;
-use tree_model::{Bytes, NoMemory, TreeDisk};
+use tree_model::{Bytes, DevFault, NoMemory, Place, TreeDisk};
 use vold_book::{Book, Standing, Turn};
 use vold_io::{MemSink, MemSource};
 
@@ -15,24 +16,55 @@ const ONE: &[u8] = b"create 10\nall\n";
 const NOTHING: &[u8] = b"journal 0\ntree 0\n";
 
 const CREATED: &[u8] =
-    b"journal 6\nbegan 0 10 create 10\nsynced\nsynced\nchanged 0 create 10 0 0\nsynced\nreplied 0 ok\ntree 2\ndir de/10\nfile version 1 30\nfile encrypted_key 64 000000000a0000000000000000000000000000000000000000000000000000000000000000000000000000000000000000000000000000000000000000000000\ndir ce/10/current\nfile version 1 30\nfile encrypted_key 64 010000000a0000000000000000000000000000000000000000000000000000000000000000000000000000000000000000000000000000000000000000000000\n";
+    b"journal 6\nbegan 0 10 create 10\nsynced\nsynced\nchanged 0 create 10 0 0\nsynced\nreplied 0 ok\ntree 2\ndir de/10\nfile version 1 30\nfile encrypted_key 64 dd69cdff9d0edb9f9003ea7f51837d2a4246f145eb9b23192aadf90d4b899cf45e63d82e1b5dfc90916335e812a360adbc97136d09d3fab7bc118cc13be23194\ndir ce/10/current\nfile version 1 30\nfile encrypted_key 64 4f82829b6a07128a175012006e61ea62fead58f0eceb973f544d6b1dfa37982c9f9b37d916451601126e7f426f5b6b601260ab835722db72b5d137cd3d24a1f0\n";
 
 const CREATED_TWICE: &[u8] =
-    b"journal 8\nbegan 0 10 create 10\nsynced\nsynced\nchanged 0 create 10 0 0\nsynced\nreplied 0 ok\nbegan 1 10 create 10\nreplied 1 user-exists\ntree 2\ndir de/10\nfile version 1 30\nfile encrypted_key 64 000000000a0000000000000000000000000000000000000000000000000000000000000000000000000000000000000000000000000000000000000000000000\ndir ce/10/current\nfile version 1 30\nfile encrypted_key 64 010000000a0000000000000000000000000000000000000000000000000000000000000000000000000000000000000000000000000000000000000000000000\n";
+    b"journal 8\nbegan 0 10 create 10\nsynced\nsynced\nchanged 0 create 10 0 0\nsynced\nreplied 0 ok\nbegan 1 10 create 10\nreplied 1 user-exists\ntree 2\ndir de/10\nfile version 1 30\nfile encrypted_key 64 dd69cdff9d0edb9f9003ea7f51837d2a4246f145eb9b23192aadf90d4b899cf45e63d82e1b5dfc90916335e812a360adbc97136d09d3fab7bc118cc13be23194\ndir ce/10/current\nfile version 1 30\nfile encrypted_key 64 4f82829b6a07128a175012006e61ea62fead58f0eceb973f544d6b1dfa37982c9f9b37d916451601126e7f426f5b6b601260ab835722db72b5d137cd3d24a1f0\n";
 
 const NOTHING_MADE: &[u8] = b"journal 2\nbegan 0 10 create 10\nreplied 0 tree-fault\ntree 0\n";
 
 const NOT_RENAMED: &[u8] =
-    b"journal 3\nbegan 0 10 create 10\nsynced\nreplied 0 tree-fault\ntree 1\ndir tmp/10\nfile version 1 30\nfile encrypted_key 64 010000000a0000000000000000000000000000000000000000000000000000000000000000000000000000000000000000000000000000000000000000000000\n";
+    b"journal 3\nbegan 0 10 create 10\nsynced\nreplied 0 tree-fault\ntree 1\ndir tmp/10\nfile version 1 30\nfile encrypted_key 64 4f82829b6a07128a175012006e61ea62fead58f0eceb973f544d6b1dfa37982c9f9b37d916451601126e7f426f5b6b601260ab835722db72b5d137cd3d24a1f0\n";
 
 const UNREAD: &[u8] =
     b"journal 6\nbegan 0 10 create 10\nsynced\nsynced\nchanged 0 create 10 0 0\nsynced\nreplied 0 ok\nunread tree\n";
 
-/// What a run wrote, and the number of its status.
+/// Scripts that stop, and what they print.
+const STOPPED: [(&[u8], &[u8]); 4] = [
+    (
+        b"create 10\nturn 10 6\nstop 1\nrestart 1\nall\n",
+        b"journal 7\nbegan 0 10 create 10\nsynced\nstopped 0\nrestarted 1 1\nbegan 1 boot recover\nsynced\nreplied 1 ok 0\ntree 0\n",
+    ),
+    (
+        b"create 10\nturn 10 4\nstop 3 = ff\n",
+        b"journal 2\nbegan 0 10 create 10\nstopped 0\ntree 1\ndir tmp/10\nfile version 1 ff\nfile encrypted_key 64 4f82829b6a07128a175012006e61ea62fead58f0eceb973f544d6b1dfa37982c9f9b37d916451601126e7f426f5b6b601260ab835722db72b5d137cd3d24a1f0\n",
+    ),
+    (
+        b"create 10\nturn 10 11\nstop 1\nrestart 1\nall\n",
+        b"journal 8\nbegan 0 10 create 10\nsynced\nsynced\nchanged 0 create 10 0 0\nstopped 1\nrestarted 1 1\nbegan 1 boot recover\nreplied 1 ok 0\ntree 2\ndir de/10\nfile version 1 30\nfile encrypted_key 64 dd69cdff9d0edb9f9003ea7f51837d2a4246f145eb9b23192aadf90d4b899cf45e63d82e1b5dfc90916335e812a360adbc97136d09d3fab7bc118cc13be23194\ndir ce/10/current\nfile version 1 30\nfile encrypted_key 64 4f82829b6a07128a175012006e61ea62fead58f0eceb973f544d6b1dfa37982c9f9b37d916451601126e7f426f5b6b601260ab835722db72b5d137cd3d24a1f0\n",
+    ),
+    (
+        b"create 10\nturn 10 11\nstop 0\nrestart 1\nall\n",
+        b"journal 9\nbegan 0 10 create 10\nsynced\nsynced\nchanged 0 create 10 0 0\nstopped 0\nrestarted 1 1\nbegan 1 boot recover\nsynced\nreplied 1 ok 0\ntree 0\n",
+    ),
+];
+
+/// Cuts of a stop, each with the bytes of the writes that it keeps or with others.
+const CUTS: [&str; 6] = [
+    "0 = = = =",
+    "0 6162 6162 6162 6162",
+    "1 = = = =",
+    "1 6162 6162 6162 6162",
+    "4294967295 = = = =",
+    "4294967295 6162 6162 6162 6162",
+];
+
+/// What a run wrote, the number of its status, and the Book that it handed back.
 #[derive(Drop)]
 struct Written {
     sink: MemSink,
     status: u8,
+    book: Option<Book<MemTree>>,
 }
 
 #[test]
@@ -42,10 +74,25 @@ fn prints_what_was_done(rt: HostRuntime) -> Result<(), Fail> {
         (ONE, CREATED),
         (b"create 10\ncreate 10\nall\n".as_slice(), CREATED_TWICE),
     ] {
-        let tree = MemTree::new(rt.alloc())?;
-        let ran = ran(rt.alloc(), "run", script, None, None, tree)?;
-        assert_eq!(rt; ran.sink.as_slice(), text);
-        assert_eq!(rt; ran.status, 0);
+        check_print(&rt, script, text)?;
+    }
+    Ok(())
+}
+
+#[test]
+fn prints_what_a_stop_left(rt: HostRuntime) -> Result<(), Fail> {
+    for (script, text) in STOPPED {
+        check_print(&rt, script, text)?;
+    }
+    Ok(())
+}
+
+#[test]
+fn directories_follow_the_journal(rt: HostRuntime) -> Result<(), Fail> {
+    for turns in 1u32..14 {
+        for cut in CUTS {
+            check_stop(&rt, turns, cut)?;
+        }
     }
     Ok(())
 }
@@ -133,6 +180,53 @@ fn opened(alloc: Global) -> Result<Book<MemTree>, NoMemory> {
     )
 }
 
+/// Asserts that a run of the script is done and prints the text.
+fn check_print<R: Abort + AllocGlobal>(rt: &R, script: &[u8], text: &[u8]) -> Result<(), NoMemory> {
+    let tree = MemTree::new(rt.alloc())?;
+    let ran = ran(rt.alloc(), "run", script, None, None, tree)?;
+    assert_eq!(rt; ran.sink.as_slice(), text);
+    assert_eq!(rt; ran.status, 0);
+    Ok(())
+}
+
+/// Stops a create after so many turns and starts again: the users of the journal are those with a device directory. All
+/// thirteen turns answer the create, and then its user is there.
+fn check_stop<R: Abort + AllocGlobal>(rt: &R, turns: u32, cut: &str) -> Result<(), Fail> {
+    let mut book = started_again(rt.alloc(), turns, cut)?.ok_or("no book")?;
+    let users = fold(rt.alloc(), book.journal())?;
+    let found = users_found(rt.alloc(), &mut book)?;
+    let answered = book.standing(0) == Standing::Answered(Reply::Done);
+    assert!(rt; book.ready());
+    assert_eq!(rt; found.as_slice(), users.users(), "{turns} turns, {cut}");
+    assert_eq!(rt; answered, turns == 13, "{turns} turns, {cut}");
+    assert!(rt; !answered || found.as_slice() == [7].as_slice());
+    Ok(())
+}
+
+/// The Book of a run that stops the create of user 7 after so many turns, and lets a recovery end.
+fn started_again(alloc: Global, turns: u32, cut: &str) -> Result<Option<Book<MemTree>>, NoMemory> {
+    let script = format!(in alloc; "create 7\nturn 7 {turns}\nstop {cut}\nrestart 1\nall\n")?;
+    let tree = MemTree::new(alloc)?;
+    let ran = ran(alloc, "run", script.as_bytes(), None, None, tree)?;
+    Ok(ran.book)
+}
+
+/// The users that have a device directory in the tree.
+fn users_found(alloc: Global, book: &mut Book<MemTree>) -> Result<Vec<u32>, DevFault> {
+    let mut users = Vec::new(alloc);
+    for place in book.places()?.as_slice() {
+        if let Place::De(user) = place {
+            push_user(&mut users, *user)?;
+        }
+    }
+    Ok(users)
+}
+
+fn push_user(users: &mut Vec<u32>, user: u32) -> Result<(), NoMemory> {
+    users.push(user)?;
+    Ok(())
+}
+
 /// The text in place of the output.
 fn message(status: u8) -> &'static [u8] {
     match status {
@@ -160,6 +254,7 @@ fn ran(
     Ok(Written {
         sink,
         status: end.status.number(),
+        book: end.book,
     })
 }
 
