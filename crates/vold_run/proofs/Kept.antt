@@ -63,9 +63,6 @@ reply-phase phase TreeFault differ = differ
 abbrev pub AreInOrder : Waiting → Type 0
 AreInOrder waiting = (actor : Actor) → IfSome (map.get waiting actor) (IsInOrder actor)
 
-some_same : {A : Type 0} (a b : A) → Some a ≡ Some b → a ≡ b
-some_same a b e = cc
-
 -- a queue whose first number began is still in order
 pub order-begun : (waiting : Waiting) (actor : Actor) (number : ℕ) (numbers : List ℕ) → map.get waiting actor ≡ Some (number ∷ numbers) → AreInOrder waiting → AreInOrder (with_queue waiting actor numbers)
 order-begun waiting actor number [] queue order = at_actors actor (λ a. IfSome (map.get (map.remove waiting actor) a) (IsInOrder a))

@@ -15,6 +15,7 @@ use Rattle.vold_book.specs.Book.{BookState}
 use Rattle.vold_run.specs.Fits.{History, LineFits, LinesFit, history_of}
 use Rattle.vold_run.specs.Lines.{command_of, order_of, commands_of, orders_of, last_of, StandsStill, IsReadyFor, IsLineDone, AreLinesDone, IsBetweenLines, LeavesNothing}
 use Rattle.vold_run.proofs.Counted.{counts-same, counts-joined}
+use Rattle.vold_run.proofs.Work.{some_same}
 
 runs_on : (stops : Bool) (phase : Phase) → IsTrue (not stops) → MatchBool stops (phase ≡ Halted) (phase ≢ Halted) → phase ≢ Halted
 runs_on false phase may still = still
@@ -57,9 +58,6 @@ flat-more f (first ∷ lines) line = ap (λ xs. f first ++ xs) (flat-more f line
 last-more : (before : Option Line) (lines : List Line) (line : Line) → last_of before (lines ++ line ∷ []) ≡ Some line
 last-more before [] line = refl
 last-more before (first ∷ lines) line = last-more (Some first) lines line
-
-some_same : {A : Type 0} (a b : A) → Some a ≡ Some b → a ≡ b
-some_same a b e = cc
 
 at_most_one : (line : Line) → length (command_of line) ≤ 1
 at_most_one (Seed bytes) = omega arith

@@ -51,7 +51,7 @@ is_there (Some a) P h = refl
 there_and_not : {A : Type 0} (found : Option A) → IsSome found → found ≡ None → ⊥
 there_and_not found there none = cc
 
-some_same : {A : Type 0} (a b : A) → Some a ≡ Some b → a ≡ b
+pub some_same : {A : Type 0} (a b : A) → Some a ≡ Some b → a ≡ b
 some_same a b e = cc
 
 -- the phase that a Book knows takes turns of the actors that the machine's phase allows
