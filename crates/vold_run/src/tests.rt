@@ -183,18 +183,25 @@ fn check_print<R: Abort + AllocGlobal>(rt: &R, script: &[u8], text: &[u8]) -> Re
     Ok(())
 }
 
-/// Stops a create after so many turns and starts again: the users of the journal are those with a device directory. All
-/// thirteen turns answer the create, and then its user is there.
+/// Stops a create after so many turns and starts again. All thirteen turns answer the create.
 fn check_stop<R: Abort + AllocGlobal>(rt: &R, turns: u32, cut: &str) -> Result<(), Fail> {
     let mut book = started_again(rt.alloc(), turns, cut)?.ok_or("no book")?;
-    let users = fold(rt.alloc(), book.journal())?;
-    let found = users_found(rt.alloc(), &mut book)?;
-    let answered = book.standing(0) == Standing::Answered(Reply::Done);
-    assert!(rt; book.ready());
-    assert_eq!(rt; found.as_slice(), users.users(), "{turns} turns, {cut}");
-    assert_eq!(rt; answered, turns == 13, "{turns} turns, {cut}");
-    assert!(rt; !answered || found.as_slice() == [7].as_slice());
+    assert_eq!(rt; answered(&book), turns == 13);
+    assert!(rt; stands_right(rt.alloc(), &mut book)?);
     Ok(())
+}
+
+/// Whether the machine is up and the users of its journal are those with a device directory, user 7 among them where the
+/// create was answered.
+fn stands_right(alloc: Global, book: &mut Book<MemTree>) -> Result<bool, DevFault> {
+    let found = users_found(alloc, book)?;
+    let users = fold(alloc, book.journal())?;
+    let same = found.as_slice() == users.users();
+    Ok(same && book.ready() && (!answered(book) || users.birth(7).is_some()))
+}
+
+fn answered(book: &Book<MemTree>) -> bool {
+    book.standing(0) == Standing::Answered(Reply::Done)
 }
 
 /// The Book of a run that stops the create of user 7 after so many turns, and lets a recovery end.
