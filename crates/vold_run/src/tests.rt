@@ -164,14 +164,12 @@ fn makes_thirteen_turns(rt: HostRuntime) -> Result<(), Fail> {
 
 /// A Book with an empty seed over an empty tree.
 fn opened(alloc: Global) -> Result<Book<MemTree>, NoMemory> {
-    opened_over(alloc, MemTree::new(alloc)?)
-}
-
-/// A Book with an empty seed over this tree.
-fn opened_over(alloc: Global, tree: MemTree) -> Result<Book<MemTree>, NoMemory>
-    requires { tree.disk ≡ empty_disk }
-{
-    Book::open(alloc, tree, Bytes::from_vec(Vec::new(alloc)), 1)
+    Book::open(
+        alloc,
+        MemTree::new(alloc)?,
+        Bytes::from_vec(Vec::new(alloc)),
+        1,
+    )
 }
 
 /// Asserts that a run of the script is done and prints the text.

@@ -1,9 +1,9 @@
-use super::{opened_over, ran};
+use super::ran;
 use journal_model::{Actor, Command, Entry, Reply};
 use std::alloc::Global;
 use std::test::Fail;
 use tree_memory::MemTree;
-use tree_model::{Cut, Fills, NoMemory, TreeDisk};
+use tree_model::{NoMemory, TreeDisk};
 use vold_book::{Book, Standing};
 
 /// Journals of a create that a fault ended, by the syncs and the change before it.
@@ -65,11 +65,11 @@ fn prints_what_a_fault_left(rt: HostRuntime) -> Result<(), Fail> {
 
 #[test]
 fn a_further_recovery_makes_up_for_a_sync(rt: HostRuntime) -> Result<(), Fail> {
-    let mut book = failed_recovery(rt.alloc())?;
+    let mut book = failed_recovery(rt.alloc())?.ok_or("no book")?;
     assert!(rt; !book.ready());
     assert!(rt; book.standing(1) == Standing::Answered(Reply::TreeFault));
     assert!(rt; book.enqueue(Command::Recover) == Ok(2));
-    turns(&mut book, Actor::Boot, 4)?;
+    recover(&mut book)?;
     assert!(rt; book.ready());
     assert!(rt; book.standing(2) == Standing::Answered(Reply::Ended(0)));
     let entries = book.journal().as_slice();
@@ -79,26 +79,18 @@ fn a_further_recovery_makes_up_for_a_sync(rt: HostRuntime) -> Result<(), Fail> {
 }
 
 /// The Book of a create that was stopped behind its first rename, once the sync of the recovery behind it failed.
-fn failed_recovery(alloc: Global) -> Result<Book<MemTree>, Fail> {
+fn failed_recovery(alloc: Global) -> Result<Option<Book<MemTree>>, NoMemory> {
     let mut tree = MemTree::new(alloc)?;
     tree.plan_fault(8)?;
-    let mut book = opened_over(alloc, tree)?;
-    book.enqueue(Command::Create { user: 10 })
-        .ok()
-        .ok_or("full")?;
-    turns(&mut book, Actor::User(10), 6)?;
-    book.stop(Cut {
-        keep: 1,
-        fills: Fills::new(Vec::new(alloc)),
-    })?;
-    book.restart(1).ok().ok_or("full")?;
-    turns(&mut book, Actor::Boot, 5)?;
-    Ok(book)
+    let script = b"create 10\nturn 10 6\nstop 1\nrestart 1\nall\n";
+    let ran = ran(alloc, "run", script, None, None, tree)?;
+    Ok(ran.book)
 }
 
-fn turns(book: &mut Book<MemTree>, actor: Actor, count: u32) -> Result<(), NoMemory> {
-    for _ in 0..count {
-        book.advance(actor)?;
+/// Gives the recovery its four turns: it begins, lists, syncs and replies.
+fn recover(book: &mut Book<MemTree>) -> Result<(), NoMemory> {
+    for _ in 0..4 {
+        book.advance(Actor::Boot)?;
     }
     Ok(())
 }
