@@ -16,7 +16,7 @@ struct Case {
     sealed: &'static str,
 }
 
-const CASES: [Case; 14] = [
+const CASES: [Case; 16] = [
     Case {
         key: "0000000000000000000000000000000000000000000000000000000000000000",
         nonce: "000000000000000000000000",
@@ -114,6 +114,20 @@ const CASES: [Case; 14] = [
         aad: "b1551da821e1fac614d777bff7840b5cb87ddfb371e696af8a16f339b1214b6f",
         text: "7529351046e37802b343bcdbf3348d9b",
         sealed: "8a7119a6ebc6076fc775426b5a1d938d8ff85fe9dcc924e0725153499f29cf83",
+    },
+    Case {
+        key: "f88a528e0e07efc94ff36bf081f0ca7c82cd1a70ba0a4dd5ae3ee865eb2c73d1",
+        nonce: "f145fc7abf2a58e19e3c5552",
+        aad: "f0d29142a6700ec3d7218e1d74944c3106f9b0e98c80f9c264b2e3b7aa0093",
+        text: "60020656f96e912b6e0be719c9fc04cc7942702d16e449ca47da5876b9a5660229",
+        sealed: "e33ef177b776286eba7f56edd942e751bb2b2e3edad18d6d643bd3f82813c3f7df9199d94b5c5d5e9b211cb40a5ea0c47f",
+    },
+    Case {
+        key: "57b2169e0e45a38b9df83be176db7b8f7da898c22802c13ed70342fe2aa5d555",
+        nonce: "77d101c04edb7fe65607a47e",
+        aad: "8f4a2849729d73e8abd59d5a6b0b47bc68306a45863bc93616eb43e8555962fdbd",
+        text: "7d5e0bb7ead19965811aabd6620bd1813733a78c4534c8d7e6b5e0ea8f9ec2",
+        sealed: "a2a6468a63ac5d9db8c1291bc2843c3487bffb3dd8019c3d10b2719304a325fa699e4fe7c1558e01af5b02e7a3f8d8",
     },
 ];
 
