@@ -1,13 +1,6 @@
--- Counts that stay at 2^64 - 1 once they are there, and what a call does to a count of faults.
-use Rattle.std.specs.Prelude.{◌≡◌, ℕ, ◌+◌, ◌-◌, ◌^◌, ◌<◌, ◌≤◌, ◌⊎◌, min}
-
--- one more, as far as a count goes
-abbrev pub one_more : ℕ → ℕ
-one_more n = min (n + 1) (2 ^ 64 - 1)
-
--- the count grew, or it stands where it can grow no more
-abbrev pub Rose : ℕ → ℕ → Type 0
-Rose before after = (before < after) ⊎ (2 ^ 64 - 1 ≤ after)
+-- What a call does to a count of faults.
+use Rattle.std.specs.Prelude.{◌≡◌, ℕ, ◌≤◌}
+use Rattle.tree_model.specs.Counted.{Rose}
 
 -- the count of faults before and after a call: it never falls, it rose where the call failed, and it stayed where the
 -- call did not fail

@@ -1,5 +1,6 @@
 ghost use Rattle.std.specs.Prelude.{◌<◌, ◌≡◌, ◌≤◌, ◌↔◌, ◌++◌, [], length, take, IfOk, IsErrOf, IsNone, OnErr, OnOk, Some};
-ghost use Rattle.vold_io.specs.Counted.{one_more, CountsFaults};
+ghost use Rattle.tree_model.specs.Counted.{one_more};
+ghost use Rattle.vold_io.specs.Counted.{CountsFaults};
 
 use crate::plan::Plan;
 use crate::sink::{Sink, SinkFault};

@@ -1,5 +1,5 @@
 ghost use Rattle.std.specs.Prelude.{◌≡◌, ◌≤◌, ◌↔◌, IsTrue, Some};
-ghost use Rattle.vold_io.specs.Counted.{one_more, Rose};
+ghost use Rattle.tree_model.specs.Counted.{one_more, Rose};
 
 /// Which call of an object in memory fails, counted from 0, and how many calls and faults there were.
 #[derive(Clone, Copy)]

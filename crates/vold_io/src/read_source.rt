@@ -1,6 +1,7 @@
 ghost use Rattle.std.specs.Io.KnownBytes.{ReadConsumes};
 ghost use Rattle.std.specs.Prelude.{◌<◌, ◌≡◌, ◌≤◌, length, IfOk, IsErr, None, OnErr, OnOk};
-ghost use Rattle.vold_io.specs.Counted.{one_more, CountsFaults};
+ghost use Rattle.tree_model.specs.Counted.{one_more};
+ghost use Rattle.vold_io.specs.Counted.{CountsFaults};
 
 use crate::source::{Failed, Source};
 use std::io::Read;

@@ -1,6 +1,7 @@
 ghost use Rattle.std.specs.Io.KnownBytes.{Keeps, WriteAppends};
 ghost use Rattle.std.specs.Prelude.{◌<◌, ◌≡◌, ◌≤◌, length, IfOk, IsErrOf, None, OnErr, OnOk};
-ghost use Rattle.vold_io.specs.Counted.{one_more, CountsFaults, Rose};
+ghost use Rattle.tree_model.specs.Counted.{one_more, Rose};
+ghost use Rattle.vold_io.specs.Counted.{CountsFaults};
 
 use crate::sink::{Sink, SinkFault};
 use std::io::Write;

@@ -4,7 +4,7 @@ ghost use Rattle.std.specs.Io.KnownBytes.{append_known};
 ghost use Rattle.std.specs.String.{string_bytes};
 ghost use Rattle.script_text.specs.Script.{seed_of, IsPlaced};
 ghost use Rattle.script_text.specs.Status.{message_of};
-ghost use Rattle.vold_io.specs.Counted.{Rose};
+ghost use Rattle.tree_model.specs.Counted.{Rose};
 ghost use Rattle.vold_book.specs.Book.{IsWhole};
 ghost use Rattle.vold_book.specs.Turns.{new_book};
 ghost use Rattle.vold_run.specs.Lines.{IsFresh};
