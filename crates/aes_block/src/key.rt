@@ -1,10 +1,11 @@
 // The key schedule (FIPS 197, section 5.2), and the cipher over it (section 5.1).
 
-ghost use Rattle.std.specs.Prelude.{◌≡◌, ℕ, ◌-◌, ◌<◌, ◌≤◌, List};
+ghost use Rattle.std.specs.Prelude.{◌≡◌, ℕ, ◌-◌, ◌<◌, ◌≤◌, List, map};
 ghost use Rattle.seal_model.specs.Aes.{cipher, encrypt, key_schedule, key_step, key_word, next_word, round_key, x_power};
 ghost use Rattle.seal_model.specs.Bytes.{xor_bytes};
 ghost use Rattle.aes_block.specs.Key.{key_of};
 
+use crate::blocks::{cipher16, loaded, stored};
 use crate::round::{add, double, mix, shift, substitute_bytes};
 use crate::s_box::substitute_word;
 use std::marker::Model;
@@ -45,6 +46,13 @@ impl Aes256 {
     {
         cipher(&self.words, block)
     }
+
+    /// The encryption of each of sixteen blocks, over lanes.
+    pub fn encrypt16(&self, blocks: &mut [[u8; 16]; 16])
+        ensures { blocks.new ≡ map (encrypt self.now) blocks.old }
+    {
+        *blocks = stored(cipher16(&self.words, loaded(blocks)));
+    }
 }
 
 fn cipher(words: &[[u8; 4]; 60], block: [u8; 16]) -> [u8; 16]
@@ -57,8 +65,9 @@ fn cipher(words: &[[u8; 4]; 60], block: [u8; 16]) -> [u8; 16]
     add(shift(substitute_bytes(state)), round_key(words, 14))
 }
 
+/// The round key of a round (5.1.4).
 #[tactic(auto, unfolding(seal_model::specs::Aes::round_key))]
-fn round_key(words: &[[u8; 4]; 60], round: usize) -> [u8; 16]
+pub fn round_key(words: &[[u8; 4]; 60], round: usize) -> [u8; 16]
     requires { round < 15 }
     ensures { result ≡ round_key words.now round }
 {

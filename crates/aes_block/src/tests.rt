@@ -77,3 +77,14 @@ fn blocks_of_other_programs(rt: HostRuntime) -> Result<(), Fail> {
     }
     Ok(())
 }
+
+// The standard's block (FIPS 197, appendix C.3), sixteen times.
+#[test]
+fn sixteen_lanes(rt: HostRuntime) -> Result<(), Fail> {
+    let (key, block, expected) = CASES[0];
+    let cipher = Aes256::new(&<[u8; 32]>::from_hex(key)?);
+    let mut blocks = [<[u8; 16]>::from_hex(block)?; 16];
+    cipher.encrypt16(&mut blocks);
+    assert_eq!(rt; blocks, [<[u8; 16]>::from_hex(expected)?; 16]);
+    Ok(())
+}

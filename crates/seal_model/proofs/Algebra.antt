@@ -287,7 +287,7 @@ module _ (l : Bool) (ls : List Bool) where
   pub remainder-times : (p q : List Bool) → times (l ∷ ls) (remainder (l ∷ ls) p) q ≡ times (l ∷ ls) p q
   remainder-times p q = times_comm (remainder (l ∷ ls) p) q ∙ times-remainder q p ∙ times_comm q p
 
-  zeros-times : (p : List Bool) → times (l ∷ ls) (zeros (l ∷ ls)) p ≡ zeros (l ∷ ls)
+  pub zeros-times : (p : List Bool) → times (l ∷ ls) (zeros (l ∷ ls)) p ≡ zeros (l ∷ ls)
   zeros-times p =
       let low = l ∷ ls in
       ap (λ x. times low x p) (sym (zeros_add (zeros low) low (Same-zeros low)))

@@ -2,13 +2,13 @@
 use Rattle.std.proofs.Common.{◌≡◌, ℕ, zero, suc, ◌+◌, ◌*◌, ◌%◌, Bool, true, false, List, [], ◌∷◌, ◌++◌, length, take, drop, replicate, refl, sym, ◌∙◌, ap, arith, length-append}
 use Rattle.seal_model.specs.Polynomial.{zeros, scaled, times_x, add, product, bits, number_of}
 use Rattle.seal_model.specs.Gcm.{block_modulus, field_product, field_one, power, power_sum, polynomial_of, bytes_of}
-use Rattle.seal_model.specs.Laws.{IsBlockRing}
+use Rattle.seal_model.specs.Laws.{IsBlockRing, HashGoesByBlocks}
 use Rattle.seal_model.proofs.Lists.{AreBytes}
 use Rattle.seal_model.proofs.Algebra.{times-cons, remainder_same, times, add_comm, add_assoc, zeros_add, Same-add, Same-remainder, times_comm, times_assoc, times-add, times_add, one_times}
 use Rattle.seal_model.proofs.Bits.{Same-length, length-Same, length-bits, number_of-bits}
 
 -- the modulus without its first coefficient
-abbrev modulus_rest : List Bool
+abbrev pub modulus_rest : List Bool
 modulus_rest = true ∷ true ∷ false ∷ false ∷ false ∷ false ∷ true ∷ replicate 120 false
 
 pub field_product_comm : (p q : List Bool) → field_product p q ≡ field_product q p
@@ -88,6 +88,13 @@ power_sum-append h b (c ∷ blocks) e f =
     ∙ ap (λ p. add p (field_product (add s b) h)) (sym (field_product_assoc c (power h (suc (length blocks))) h))
     ∙ sym (field_product_add first (add s b) h)
     ∙ ap (λ p. field_product p h) (sym (add_assoc first s b))
+
+pub hash_goes_by_blocks : HashGoesByBlocks
+unfolding power_sum
+hash_goes_by_blocks = record {
+  start = λ h. refl;
+  next = λ h b blocks e f. power_sum-append h b blocks e f;
+}
 
 pub length-polynomial_of : (s : List ℕ) (n : ℕ) → length s ≡ n → length (polynomial_of s) ≡ 8 * n
 unfolding polynomial_of

@@ -183,7 +183,7 @@ inverse_below-lt (suc (suc n)) x h =
     let below = inverse_below-lt (suc n) x (omega arith) in
     elim (multiply x (suc n) == 1) as (λ b. cond b (suc n) (inverse_below (suc n) x) < suc (suc n)) [ true ↦ omega arith | false ↦ omega arith ]
 
-inverse-lt : (x : ℕ) → inverse x < 256
+pub inverse-lt : (x : ℕ) → inverse x < 256
 unfolding inverse
 inverse-lt x = inverse_below-lt 256 x (omega arith)
 
@@ -211,6 +211,8 @@ s_box-table x h = ap affine (inverse-table x h)
 
 pub byte_field : IsByteField
 byte_field = record {
+  closed = multiply-lt;
+  inverse_closed = inverse-lt;
   commutative = multiply_comm;
   associative = multiply_assoc;
   distributive = multiply-xor;

@@ -5,3 +5,8 @@ pub mod ByteField
 pub mod Remainders
 pub mod BlockField
 pub mod Sealing
+pub mod BytePowers
+pub mod BlockPowers
+pub mod OnlySealed
+pub mod Examples
+pub mod Pointwise

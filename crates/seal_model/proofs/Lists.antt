@@ -1,5 +1,6 @@
--- Lists of bytes, and their elements one by one.
-use Rattle.std.proofs.Common.{◌≡◌, ℕ, zero, suc, ◌+◌, ◌<◌, List, [], ◌∷◌, length, get_or, drop, sym, ◌∙◌, ap, arith, add-one}
+-- Lists of bytes, and their elements one by one; numbers one by one.
+use Rattle.std.proofs.Common.{◌≡◌, ℕ, zero, suc, ◌+◌, ◌<◌, ◌≤◌, List, [], ◌∷◌, length, get_or, drop, sym, ◌∙◌, ap, subst, inl, inr, arith, add-one}
+use Rattle.std.proofs.lemmas.Bool.{cases_lt}
 use Rattle.std.proofs.Math.Seq.{drop-cons, drop-length}
 
 -- every element is a byte
@@ -22,3 +23,20 @@ bytes_from-is zero k s e = sym (drop-length s) ∙ ap (λ j. drop j s) (omega ar
 bytes_from-is (suc n) k s e =
     ap (λ t. get_or s k 0 ∷ t) (bytes_from-is n (k + 1) s (omega arith) ∙ ap (λ j. drop j s) (add-one k))
     ∙ sym (drop-cons s k 0 (omega arith))
+
+-- P holds at k and on, n times
+abbrev pub Each : (P : ℕ → Type 0) → ℕ → ℕ → Type 0
+Each P k zero = Unit {0}
+Each P k (suc n) = P k × Each P (k + 1) n
+
+pub each_at : (P : ℕ → Type 0) (k n j : ℕ) → Each P k n → k ≤ j → j < k + n → P j
+each_at P k zero j h le lt = absurd (omega arith)
+each_at P k (suc n) j h le lt =
+    elim (cases_lt k j) [
+      | inl below ↦ each_at P (k + 1) n j h.1 (omega arith) (omega arith)
+      | inr reached ↦ let same : k ≡ j = omega arith in subst P same h.0
+    ]
+
+-- P holds at each number below n
+pub each_below : (P : ℕ → Type 0) (n : ℕ) → Each P 0 n → (j : ℕ) → j < n → P j
+each_below P n h j lt = each_at P 0 n j h (omega arith) (omega arith)

@@ -42,7 +42,7 @@ unfolding encrypted
 length-encrypted key nonce text =
     length-xor_bytes text (key_stream key nonce (block_count (length text))) (stream_reaches key nonce text)
 
-encrypted-encrypted : (key nonce text : List ℕ) → encrypted key nonce (encrypted key nonce text) ≡ text
+pub encrypted-encrypted : (key nonce text : List ℕ) → encrypted key nonce (encrypted key nonce text) ≡ text
 unfolding encrypted
 encrypted-encrypted key nonce text =
     ap (λ n. xor_bytes (encrypted key nonce text) (key_stream key nonce (block_count n))) (length-encrypted key nonce text)
@@ -63,13 +63,13 @@ other_tag : (s t : List ℕ) (b : Bool) → bytes_eq s t ≡ b → s ≢ t → b
 other_tag s t false e h = refl
 other_tag s t true e h = absurd (h ((bytes_eq-Decides s t).0 e))
 
-unseal-short : (key nonce aad sealed : List ℕ) → length sealed < 16 → unseal key nonce aad sealed ≡ None
+pub unseal-short : (key nonce aad sealed : List ℕ) → length sealed < 16 → unseal key nonce aad sealed ≡ None
 unfolding unseal
 unseal-short key nonce aad sealed h =
     ap (λ b. cond (b && bytes_eq (tag_of sealed) (tag key nonce aad (ciphertext_of sealed))) (Some (encrypted key nonce (ciphertext_of sealed))) None)
     (lt-leb 16 (length sealed) h)
 
-unseal-long : (key nonce aad sealed : List ℕ) → 16 ≤ length sealed
+pub unseal-long : (key nonce aad sealed : List ℕ) → 16 ≤ length sealed
     → unseal key nonce aad sealed
     ≡ cond (bytes_eq (tag_of sealed) (tag key nonce aad (ciphertext_of sealed))) (Some (encrypted key nonce (ciphertext_of sealed))) None
 unfolding unseal

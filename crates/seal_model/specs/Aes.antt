@@ -15,6 +15,11 @@ byte_modulus = true ∷ true ∷ false ∷ true ∷ true ∷ false ∷ false ∷
 unfoldable pub multiply : ℕ → ℕ → ℕ
 multiply a b = number_of (reverse (remainder byte_modulus (product (polynomial_of a) (polynomial_of b))))
 
+-- x to the power n
+unfoldable pub byte_power : ℕ → ℕ → ℕ
+byte_power x zero = 1
+byte_power x (suc n) = multiply (byte_power x n) x
+
 -- the largest y below n with x y = 1, or 0 where there is none
 unfoldable pub inverse_below : ℕ → ℕ → ℕ
 inverse_below zero x = 0

@@ -1,11 +1,13 @@
 -- The laws of the two fields, of the S-box and of sealing.
-use Rattle.std.specs.Prelude.{◌≡◌, ◌≢◌, ℕ, ◌<◌, ◌≤◌, Bool, true, List, [], ◌∷◌, ◌++◌, length, bit_xor, Some, None}
+use Rattle.std.specs.Prelude.{◌≡◌, ◌≢◌, ℕ, ◌<◌, ◌≤◌, Bool, true, false, List, [], ◌∷◌, ◌++◌, length, replicate, bit_xor, Some, None}
 use Rattle.seal_model.specs.Polynomial.{plus, add, product, remainder, coefficient}
-use Rattle.seal_model.specs.Aes.{multiply, inverse, s_box}
-use Rattle.seal_model.specs.Gcm.{field_product, field_one, encrypted, tag, tag_of, ciphertext_of, seal, unseal}
+use Rattle.seal_model.specs.Aes.{multiply, byte_power, inverse, s_box}
+use Rattle.seal_model.specs.Gcm.{block_modulus, bytes_of, field_product, field_one, power_sum, encrypted, tag, tag_of, ciphertext_of, seal, unseal}
 
 -- the bytes are a field
 pub record IsByteField : Type 0 where
+  pub closed : (a b : ℕ) → multiply a b < 256
+  pub inverse_closed : (a : ℕ) → inverse a < 256
   pub commutative : (a b : ℕ) → multiply a b ≡ multiply b a
   pub associative : (a b c : ℕ) → multiply (multiply a b) c ≡ multiply a (multiply b c)
   pub distributive : (a b c : ℕ) → multiply a (bit_xor b c) ≡ bit_xor (multiply a b) (multiply a c)
@@ -13,12 +15,31 @@ pub record IsByteField : Type 0 where
   pub has_inverses : (a : ℕ) → a < 256 → a ≢ 0 → multiply a (inverse a) ≡ 1
   pub inverse_of_zero : inverse 0 ≡ 0
 
+-- the inverse is a power: the field has 256 elements
+abbrev pub InverseIsPower : Type 0
+InverseIsPower = (x : ℕ) → x < 256 → inverse x ≡ byte_power x 254
+
+-- products of bytes in the standard (FIPS 197, 4.2 and 4.2.1)
+pub record ByteProducts : Type 0 where
+  pub of_57_and_83 : multiply 0x57 0x83 ≡ 0xc1
+  pub of_57_and_13 : multiply 0x57 0x13 ≡ 0xfe
+
 -- the polynomials below x ^ 128 are a commutative ring with one
 pub record IsBlockRing : Type 0 where
   pub commutative : (p q : List Bool) → field_product p q ≡ field_product q p
   pub associative : (p q r : List Bool) → field_product (field_product p q) r ≡ field_product p (field_product q r)
   pub distributive : (p q r : List Bool) → field_product p (add q r) ≡ add (field_product p q) (field_product p r)
   pub has_one : (p : List Bool) → length p ≡ 128 → field_product field_one p ≡ p
+
+-- the modulus of blocks is the block that the standard calls R (SP 800-38D, 6.3)
+abbrev pub BlockModulusIsR : Type 0
+BlockModulusIsR = bytes_of 16 block_modulus ≡ 0xe1 ∷ replicate 15 0
+
+-- GHASH goes block by block: with one more, this is added to the sum so far, and all is multiplied by h (SP 800-38D, 6.4)
+pub record HashGoesByBlocks : Type 0 where
+  pub start : (h : List Bool) → power_sum h [] ≡ replicate 128 false
+  pub next : (h b : List Bool) (blocks : List (List Bool)) → length h ≡ 128 → length b ≡ 128
+      → power_sum h (blocks ++ b ∷ []) ≡ field_product (add (power_sum h blocks) b) h
 
 -- r is the remainder of p modulo x ^ n + low, where low has n coefficients: it has n too, and p less r is a multiple
 pub record IsRemainder (low p r : List Bool) : Type 0 where
@@ -50,3 +71,8 @@ UnsealAnswersAll = (key nonce aad sealed : List ℕ) → UnsealAnswers key nonce
 -- opening a sealed text gives the text
 abbrev pub UnsealGivesText : Type 0
 UnsealGivesText = (key nonce aad text : List ℕ) → unseal key nonce aad (seal key nonce aad text) ≡ Some text
+
+-- and what opens was sealed: from that text, under that key and nonce, with that additional data
+abbrev pub OnlySealedOpens : Type 0
+OnlySealedOpens =
+    (key nonce aad sealed text : List ℕ) → unseal key nonce aad sealed ≡ Some text → sealed ≡ seal key nonce aad text

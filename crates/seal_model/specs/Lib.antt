@@ -3,3 +3,4 @@ pub mod Bytes
 pub mod Aes
 pub mod Gcm
 pub mod Laws
+pub mod Lanes

@@ -3,7 +3,8 @@
 //! The crate has no code that a program runs. Each function here carries a law of the definitions on its contract.
 #![tactic(auto)]
 
-ghost use Rattle.seal_model.specs.Laws.{IsByteField, IsBlockRing, RemainderIsRemainder, SBoxValues, UnsealAnswersAll, UnsealGivesText};
+ghost use Rattle.seal_model.specs.Laws.{IsByteField, InverseIsPower, ByteProducts, IsBlockRing, BlockModulusIsR, HashGoesByBlocks};
+ghost use Rattle.seal_model.specs.Laws.{RemainderIsRemainder, SBoxValues, UnsealAnswersAll, UnsealGivesText, OnlySealedOpens};
 
 /// `remainder` leaves the remainder of a polynomial by division.
 pub fn remainder_is_remainder()
@@ -13,6 +14,16 @@ pub fn remainder_is_remainder()
 /// The bytes are a field (FIPS 197, section 4).
 pub fn bytes_are_a_field()
     ensures { IsByteField }
+{}
+
+/// The inverse of a byte is its 254th power.
+pub fn inverse_is_power()
+    ensures { InverseIsPower }
+{}
+
+/// Bytes have the standard's products (FIPS 197, sections 4.2 and 4.2.1).
+pub fn bytes_have_products()
+    ensures { ByteProducts }
 {}
 
 /// The S-box has the standard's values (FIPS 197, figure 7).
@@ -25,6 +36,16 @@ pub fn blocks_are_a_ring()
     ensures { IsBlockRing }
 {}
 
+/// The modulus of blocks is the standard's R (SP 800-38D, section 6.3).
+pub fn block_modulus_is_r()
+    ensures { BlockModulusIsR }
+{}
+
+/// GHASH adds each block to the sum so far, and multiplies by the hash key (SP 800-38D, section 6.4).
+pub fn hash_goes_by_blocks()
+    ensures { HashGoesByBlocks }
+{}
+
 /// A sealed text opens to nothing exactly where it has fewer than 16 bytes or another tag than its ciphertext's.
 pub fn unseal_answers()
     ensures { UnsealAnswersAll }
@@ -33,4 +54,9 @@ pub fn unseal_answers()
 /// Opening a sealed text gives the text.
 pub fn unseal_gives_text()
     ensures { UnsealGivesText }
+{}
+
+/// What opens was sealed, from the text that it opens to.
+pub fn only_sealed_opens()
+    ensures { OnlySealedOpens }
 {}
