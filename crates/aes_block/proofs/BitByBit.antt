@@ -1,13 +1,13 @@
 -- A product of two bytes, one bit of the left one after the other, and the doubling of a byte.
-use Rattle.std.proofs.Common.{◌≡◌, ℕ, zero, suc, ◌+◌, ◌*◌, ◌/◌, ◌%◌, ◌^◌, ◌<◌, cond, true, ◌==◌, bit_xor, refl, sym, ◌∙◌, ap, arith, lt_of_le_of_lt, div-le_self}
+use Rattle.std.proofs.Common.{◌≡◌, ℕ, zero, suc, ◌+◌, ◌/◌, ◌%◌, ◌^◌, ◌<◌, cond, true, ◌==◌, bit_xor, refl, sym, ◌∙◌, ap, arith, lt_of_le_of_lt, div-le_self}
 use Rattle.std.specs.Int.Bits.{xor_self}
-use Rattle.std.proofs.lemmas.Bool.{eqb-true, eq-eqb, ne_eqb}
-use Rattle.std.proofs.lemmas.Nat.{shr-shr, pow_pos}
-use Rattle.std.proofs.lemmas.Nat.Bits.{and_pow}
+use Rattle.std.proofs.lemmas.Bool.{eqb-true}
+use Rattle.std.proofs.lemmas.Nat.{shr-shr}
 use Rattle.seal_model.specs.Polynomial.{bits}
 use Rattle.seal_model.specs.Aes.{multiply, byte_modulus, polynomial_of}
 use Rattle.seal_model.proofs.ByteField.{all_below, all_below-at, multiply_assoc, multiply_comm, one_multiply, multiply-xor}
 use Rattle.seal_model.specs.Lanes.{where_set}
+use Rattle.seal_model.proofs.Pointwise.{bit_test}
 
 even_test : all_below 128 (λ h. bit_xor (multiply 2 h) 0 == h + h) ≡ true
 unfolding all_below multiply byte_modulus polynomial_of bits
@@ -29,15 +29,14 @@ with_digit h (suc (suc d)) p q = absurd (omega arith)
 zero_multiply : (y : ℕ) → multiply 0 y ≡ 0
 zero_multiply y = multiply_comm 0 y ∙ multiply-xor y 0 0 ∙ xor_self (multiply y 0)
 
--- 0 or 1 times a byte, by a test of the digit d at the place p
-digit_times : (d p y : ℕ) → d < 2 → 0 < p → y < 256 → cond (d * p == p) y 0 ≡ multiply d y
-digit_times zero p y h g q = ap (λ b. cond b y 0) (ne_eqb (0 * p) p (omega arith)) ∙ sym (zero_multiply y)
-digit_times (suc zero) p y h g q = ap (λ b. cond b y 0) (eq-eqb (1 * p) p (omega arith)) ∙ sym (one_multiply y q)
-digit_times (suc (suc d)) p y h g q = absurd (omega arith)
+-- 0 or 1 times a byte
+digit_times : (d y : ℕ) → d < 2 → y < 256 → cond (d == 1) y 0 ≡ multiply d y
+digit_times zero y h q = sym (zero_multiply y)
+digit_times (suc zero) y h q = sym (one_multiply y q)
+digit_times (suc (suc d)) y h q = absurd (omega arith)
 
 chosen : (x y i : ℕ) → y < 256 → where_set x (2 ^ i) y ≡ multiply (x / 2 ^ i % 2) y
-chosen x y i q =
-    ap (λ n. cond (n == 2 ^ i) y 0) (and_pow x i) ∙ digit_times (x / 2 ^ i % 2) (2 ^ i) y (omega arith) (pow_pos i) q
+chosen x y i q = ap (λ b. cond b y 0) (bit_test x i) ∙ digit_times (x / 2 ^ i % 2) y (omega arith) q
 
 -- one bit more of the left factor
 one_bit_more : (x y i : ℕ) → x < 256

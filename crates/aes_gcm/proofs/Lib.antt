@@ -3,3 +3,5 @@ pub mod Products
 pub mod Sums
 pub mod Streams
 pub mod Sealed
+pub mod Nibbles
+pub mod Halves

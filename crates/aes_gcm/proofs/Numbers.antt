@@ -71,7 +71,7 @@ byte_at-is : (k n : ℕ) → byte_at k n ≡ n / 2 ^ (8 * k) % 256
 byte_at-is zero n = omega arith
 byte_at-is (suc k) n = ap (λ p. n / p % 256) (pow_of_256 (suc k))
 
-bits-append : (m k n : ℕ) → bits (m + k) n ≡ bits m (n / 2 ^ k) ++ bits k n
+pub bits-append : (m k n : ℕ) → bits (m + k) n ≡ bits m (n / 2 ^ k) ++ bits k n
 bits-append m k n =
     let q = n / 2 ^ k in let r = n % 2 ^ k in let whole = shr_split n k in
     ap (bits (m + k)) (sym whole) ∙ bits-cat m k q r (mod_below n (2 ^ k) (pow_pos k))

@@ -11,7 +11,7 @@ use Rattle.seal_model.specs.Aes.{encrypt}
 use Rattle.seal_model.specs.Gcm.{polynomial_of, ghash, blocks_of, lengths_block, hash_key, counter_block, encrypted, tag, tag_of, ciphertext_of, seal, unseal}
 use Rattle.seal_model.proofs.Sealing.{length-encrypt, unseal_answers}
 use Rattle.aes_gcm.specs.Hash.{Adds}
-use Rattle.aes_gcm.proofs.Numbers.{bits-from_be_bytes, bytes_high_first-xor}
+use Rattle.aes_gcm.proofs.Numbers.{bytes_high_first-xor}
 use Rattle.aes_gcm.proofs.Sums.{adds_both, hash_bytes, bytes_back}
 
 -- every element is a byte
@@ -30,7 +30,7 @@ adds_all h first second third start aad text last f g k =
     (adds_both h start first second (map polynomial_of aad) (map polynomial_of text) f g) k)
 
 pub tag_is : (key nonce aad text lengths zero mask : List ℕ) (h first second third number : ℕ)
-    → zero ≡ hash_key key → AllFit zero → h ≡ from_be_bytes w128 zero
+    → zero ≡ hash_key key → bits 128 h ≡ polynomial_of zero
     → Adds (bits 128 h) (bits 128 0) (bits 128 first) (map polynomial_of (blocks_of aad))
     → Adds (bits 128 h) (bits 128 first) (bits 128 second) (map polynomial_of (blocks_of text))
     → Adds (bits 128 h) (bits 128 second) (bits 128 third) (polynomial_of lengths ∷ [])
@@ -38,11 +38,9 @@ pub tag_is : (key nonce aad text lengths zero mask : List ℕ) (h first second t
     → mask ≡ encrypt key (counter_block nonce 1) → AllFit mask → number ≡ from_be_bytes w128 mask
     → to_be_bytes w128 (bit_xor third number) ≡ tag key nonce aad text
 unfolding tag
-tag_is key nonce aad text lengths zero mask h first second third number ez fz eh f g k el em fm en =
-    let long : length zero ≡ 16 = ap length ez ∙ length-encrypt key _ in
+tag_is key nonce aad text lengths zero mask h first second third number ez eh f g k el em fm en =
     let wide : length mask ≡ 16 = ap length em ∙ length-encrypt key (counter_block nonce 1) in
-    let key_is : bits 128 h ≡ polynomial_of (hash_key key) =
-    ap (bits 128) eh ∙ bits-from_be_bytes zero long fz ∙ ap polynomial_of ez in
+    let key_is : bits 128 h ≡ polynomial_of (hash_key key) = eh ∙ ap polynomial_of ez in
     bytes_high_first-xor 16 third number
     ∙ (λ i. xor_bytes
     (hash_bytes h third (hash_key key) (blocks_of aad ++ blocks_of text ++ lengths ∷ []) key_is

@@ -6,12 +6,14 @@
 mod counter;
 mod field;
 mod hash;
+mod lanes;
 
 ghost use Rattle.std.specs.Prelude.{◌≡◌, ◌^◌, ◌≤◌, length, IfOk};
 ghost use Rattle.seal_model.specs.Gcm.{blocks_of, ghash, seal, tag, unseal};
 
 use crate::counter::{add_key_stream, counter_block};
-use crate::hash::{absorb, absorb_block, lengths_block};
+use crate::field::Factor;
+use crate::hash::{absorb, absorb_block, element_of, lengths_block};
 use aes_block::Aes256;
 use std::alloc::Global;
 use tree_model::{Bytes, NoMemory};
@@ -20,7 +22,8 @@ use tree_model::{Bytes, NoMemory};
 pub fn ghash(h: [u8; 16], bytes: &[u8]) -> [u8; 16]
     ensures { result ≡ ghash h (blocks_of bytes.now) }
 {
-    absorb(0, u128::from_be_bytes(h), bytes).to_be_bytes()
+    let h = Factor::new(element_of(h));
+    absorb(0, &h, bytes).to_be_bytes()
 }
 
 /// The ciphertext of a text and its tag (section 7.1), in memory for these alone.
@@ -79,10 +82,10 @@ fn tag(cipher: &Aes256, nonce: &[u8; 12], aad: &[u8], ciphertext: &[u8]) -> [u8;
     requires ciphertext_length { length ciphertext.now ≤ 2 ^ 32 }
     ensures { result ≡ tag cipher.now nonce.now aad.now ciphertext.now }
 {
-    let h = u128::from_be_bytes(cipher.encrypt_block([0; 16]));
-    let sum = absorb(0, h, aad);
-    let sum = absorb(sum, h, ciphertext);
-    let sum = absorb_block(sum, h, lengths_block(aad.len(), ciphertext.len()));
+    let h = Factor::new(element_of(cipher.encrypt_block([0; 16])));
+    let sum = absorb(0, &h, aad);
+    let sum = absorb(sum, &h, ciphertext);
+    let sum = absorb_block(sum, &h, lengths_block(aad.len(), ciphertext.len()));
     let mask = u128::from_be_bytes(cipher.encrypt_block(counter_block(nonce, 1)));
     (sum ^ mask).to_be_bytes()
 }

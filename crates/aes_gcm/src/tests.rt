@@ -217,3 +217,100 @@ fn hash_of_one_block_and_of_two(rt: HostRuntime) -> Result<(), Fail> {
     assert_eq!(rt; ghash(h, &blocks), both);
     Ok(())
 }
+
+// The lengths of additional data and of a text, and the last 16 bytes of the sealed text, by OpenSSL. The key has the bytes
+// 00 to 1f and the nonce 00 to 0b. The lengths lie about groups of eight and of sixteen blocks, and past what a counter of
+// 8 or of 16 bits could count and a length of 11 bits could tell.
+const LONG_TEXTS: [(usize, usize, &str); 16] = [
+    (0, 127, "b6ae67428530f634a0e272c9bb861e20"),
+    (0, 128, "e5ab8d0db06a33b87c4a561a1adf4b00"),
+    (0, 129, "0e68b71cb2c5f59abb54866451053958"),
+    (0, 255, "a01afd16b8d4b0d022a1b11e0b501c87"),
+    (0, 256, "20a76d9199dd0e9568756e018b103c97"),
+    (0, 257, "ae500ea733e65366cd924ab14b312c3b"),
+    (0, 271, "9348596d5bc84457177da526e12bf51e"),
+    (0, 272, "ef220d0608655048f975ffe32130c705"),
+    (0, 273, "8e381e5bb903b311b17cafc0da1d2c65"),
+    (129, 511, "570513ab46c8e1c574cd2a09d1d96d3d"),
+    (128, 512, "1858180196f62d31b58ee52e2d3b12bf"),
+    (127, 513, "cc9867b2fde6f496744cc8bb841d0fa6"),
+    (0, 4064, "7aa407d999e7df4e98c3d2c93bafa680"),
+    (0, 4065, "2a53f4354abdb119f750aa4880087f8c"),
+    (300, 4100, "a92c8377c1f995edf31f1fa63e4ad2d8"),
+    (0, 1_048_592, "e95adb85c33e124363c967361859ba5e"),
+];
+
+#[test]
+fn long_texts_of_another_program(rt: HostRuntime) -> Result<(), Fail> {
+    let mut key = [0; 32];
+    for (i, byte) in key.iter_mut().enumerate() {
+        *byte = i as u8;
+    }
+    let nonce = [0, 1, 2, 3, 4, 5, 6, 7, 8, 9, 10, 11];
+    for (aad_len, text_len, expected) in LONG_TEXTS {
+        let aad = pattern(&rt, rt.alloc(), aad_len, 7, 3, 256)?;
+        let text = pattern(&rt, rt.alloc(), text_len, 31, 0, 251)?;
+        let sealed = seal(rt.alloc(), &key, &nonce, aad.as_slice(), text.as_slice())?;
+        let last = sealed.as_slice().last_chunk::<16>().ok_or("no tag")?;
+        assert_eq!(rt;
+            *last,
+            <[u8; 16]>::from_hex(expected)?,
+            "of {} bytes",
+            text_len
+        );
+    }
+    Ok(())
+}
+
+// The bytes (i * factor + first) % modulus, few enough to seal.
+fn pattern(
+    rt: &impl Abort,
+    alloc: Global,
+    len: usize,
+    factor: usize,
+    first: usize,
+    modulus: usize,
+) -> Result<Vec<u8>, Fail>
+    ensures { IfOk result (λ bytes. vec_len bytes ≤ 2000000) }
+{
+    let mut bytes = Vec::new(alloc);
+    let mut next = first;
+    for _i in 0..len {
+        bytes.push(next as u8)?;
+        next = (next + factor) % modulus;
+    }
+    assert!(rt; bytes.len() <= 2_000_000);
+    Ok(bytes)
+}
+
+// The length of a text as above, and its hash under the hash key of the zero key of AES-128.
+const HASHES: [(usize, &str); 13] = [
+    (0, "00000000000000000000000000000000"),
+    (1, "00000000000000000000000000000000"),
+    (15, "ccb6fd6f7fa12b5437eae04b474c2d2c"),
+    (17, "cf60526971b42eb688a8a230f7d60deb"),
+    (112, "fa43a78e8b468a4ba8bb775393405de3"),
+    (127, "781527d7dcb32e24ac4572e1b75b1386"),
+    (128, "4d557bffc6007e40c2f661359f1f1d7c"),
+    (129, "32a2d8d98715eaeb27cf84d8b07ba61a"),
+    (144, "dd268dfa0b9c75ece99cc8be77ab0b62"),
+    (255, "3844ada0f337b03228773f88b612f2f4"),
+    (256, "9c104806ec2786f8b65032b8744f4e7e"),
+    (257, "bc2d41a19e18af2e5130548491756c4a"),
+    (1024, "2017de541f00978d02f7fffed73ab44b"),
+];
+
+#[test]
+fn hashes_of_long_texts(rt: HostRuntime) -> Result<(), Fail> {
+    let h = <[u8; 16]>::from_hex("66e94bd4ef8a2c3b884cfa59ca342b2e")?;
+    for (len, expected) in HASHES {
+        let text = pattern(&rt, rt.alloc(), len, 31, 0, 251)?;
+        assert_eq!(rt;
+            ghash(h, text.as_slice()),
+            <[u8; 16]>::from_hex(expected)?,
+            "of {} bytes",
+            len
+        );
+    }
+    Ok(())
+}

@@ -313,7 +313,7 @@ module _ (l : Bool) (ls : List Bool) where
       ∙ sym (times-cons a p (times (l ∷ ls) q r))
 
   -- and has a one
-  times-zeros : (z p : List Bool) → times (l ∷ ls) (zeros z) p ≡ zeros (l ∷ ls)
+  pub times-zeros : (z p : List Bool) → times (l ∷ ls) (zeros z) p ≡ zeros (l ∷ ls)
   times-zeros [] p = refl
   times-zeros (a ∷ z) p = times-cons false (zeros z) p ∙ ap (times_x (l ∷ ls)) (times-zeros z p) ∙ times_x-zeros (l ∷ ls)
 

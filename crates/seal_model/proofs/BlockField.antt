@@ -4,7 +4,7 @@ use Rattle.seal_model.specs.Polynomial.{zeros, scaled, times_x, add, product, bi
 use Rattle.seal_model.specs.Gcm.{block_modulus, field_product, field_one, power, power_sum, polynomial_of, bytes_of}
 use Rattle.seal_model.specs.Laws.{IsBlockRing, HashGoesByBlocks}
 use Rattle.seal_model.proofs.Lists.{AreBytes}
-use Rattle.seal_model.proofs.Algebra.{times-cons, remainder_same, times, add_comm, add_assoc, zeros_add, Same-add, Same-remainder, times_comm, times_assoc, times-add, times_add, one_times}
+use Rattle.seal_model.proofs.Algebra.{times-cons, remainder_same, times, add_comm, add_assoc, zeros_add, add_zeros, Same-add, Same-remainder, times_comm, times_assoc, times-add, times_add, one_times}
 use Rattle.seal_model.proofs.Bits.{Same-length, length-Same, length-bits, number_of-bits}
 
 -- the modulus without its first coefficient
@@ -45,6 +45,10 @@ block_ring = record {
 
 pub length-add : (p q : List Bool) → length p ≡ 128 → length q ≡ 128 → length (add p q) ≡ 128
 length-add p q e f = length-Same (add p q) q (Same-add p q q (Same-length p q (e ∙ sym f)) (Same-length q q refl)) ∙ f
+
+-- the field's zero
+pub add_none : (p : List Bool) → length p ≡ 128 → add p (replicate 128 false) ≡ p
+add_none p e = add_zeros p (true ∷ modulus_rest) (Same-length p (true ∷ modulus_rest) e)
 
 pub length-power_sum : (h : List Bool) (blocks : List (List Bool)) → length (power_sum h blocks) ≡ 128
 unfolding power_sum

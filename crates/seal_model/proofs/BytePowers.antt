@@ -3,7 +3,7 @@ use Rattle.std.proofs.Common.{◌≡◌, ℕ, zero, suc, ◌+◌, ◌*◌, ◌<�
 use Rattle.std.proofs.Math.Nat.{mul-suc}
 use Rattle.std.proofs.lemmas.Bool.{eqb-true}
 use Rattle.seal_model.specs.Polynomial.{bits}
-use Rattle.seal_model.specs.Aes.{multiply, byte_power, inverse, byte_modulus, polynomial_of}
+use Rattle.seal_model.specs.Aes.{multiply, byte_power, byte_modulus, polynomial_of}
 use Rattle.seal_model.specs.Laws.{InverseIsPower}
 use Rattle.seal_model.proofs.ByteField.{all_below, all_below-at, inverse_table, table_inverse, inverse-table}
 use Rattle.seal_model.proofs.ByteField.{multiply_assoc, multiply_comm, one_multiply, multiply-lt}

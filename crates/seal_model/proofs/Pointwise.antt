@@ -1,17 +1,30 @@
 -- Operators lane by lane.
-use Rattle.std.proofs.Common.{◌≡◌, ℕ, zero, suc, ◌-◌, ◌^◌, ◌<◌, cond, eqb, false, List, [], ◌∷◌, length, get_or, map, replicate, bit_and}
-use Rattle.std.proofs.Common.{refl, sym, ◌∙◌, ap, subst, arith, Fits}
+use Rattle.std.proofs.Common.{◌≡◌, ℕ, zero, suc, ◌-◌, ◌*◌, ◌^◌, ◌<◌, ◌==◌, cond, eqb, false, List, [], ◌∷◌, length, get_or, map, replicate, bit_and}
+use Rattle.std.proofs.Common.{sym, ◌∙◌, ap, subst, arith, Fits}
 use Rattle.std.specs.Int.{Width}
 use mir.Val.{bits, hbits}
 use lib.Lanes.{zip2, sel_l, top, Each1}
 use Rattle.std.proofs.lemmas.Nat.{pow_pos}
 use Rattle.std.proofs.lemmas.Simd.{length-replicate, length-zip2, get_or-zip2, get_or-replicate, length-sel_l, get_or-sel_l, tops_compared}
+use Rattle.std.proofs.lemmas.Bool.{eq-eqb, ne_eqb}
+use Rattle.std.proofs.lemmas.Nat.Bits.{and_pow, bit_at-lt}
+use Rattle.std.specs.Int.{bit_at}
+use Rattle.seal_model.specs.Polynomial.{bit}
 use Rattle.seal_model.specs.Lanes.{HasLanes, where_set}
 
 pub lane_fits : (w : Width) (v : List ℕ) (i : ℕ) → Each1 (Fits w) v → get_or v i 0 < 2 ^ bits w
 lane_fits w [] i h = pow_pos (bits w)
 lane_fits w (x ∷ xs) zero h = h.0.fits
 lane_fits w (x ∷ xs) (suc i) h = lane_fits w xs i h.1
+
+-- comparing with the mask of a bit tells the bit
+digit_test : (d p : ℕ) → d < 2 → 0 < p → (d * p == p) ≡ (d == 1)
+digit_test zero p h g = ne_eqb (0 * p) p (omega arith)
+digit_test (suc zero) p h g = eq-eqb (1 * p) p (omega arith)
+digit_test (suc (suc d)) p h g = absurd (omega arith)
+
+pub bit_test : (x i : ℕ) → (bit_and x (2 ^ i) == 2 ^ i) ≡ bit x i
+bit_test x i = ap (λ n. n == 2 ^ i) (and_pow x i) ∙ digit_test (bit_at x i) (2 ^ i) (bit_at-lt x i) (pow_pos i)
 
 module _ (n : ℕ) where
   pub lanes_of : (f : ℕ → ℕ → ℕ) (xs ys : List ℕ) → length xs ≡ n → length ys ≡ n
