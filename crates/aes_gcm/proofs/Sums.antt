@@ -7,7 +7,7 @@ use Rattle.seal_model.specs.Gcm.{field_product, power, polynomial_of, bytes_of, 
 use Rattle.seal_model.proofs.Lists.{are_bytes}
 use Rattle.seal_model.proofs.Bits.{bits-xor, length-bits}
 use Rattle.seal_model.proofs.Algebra.{add_assoc}
-use Rattle.seal_model.proofs.BlockField.{power_sum-append, length-polynomial_of, bytes_of-polynomial_of}
+use Rattle.seal_model.proofs.BlockField.{power_sum-append, bytes_of-polynomial_of}
 use Rattle.seal_model.proofs.BlockField.{field_product_add, length-field_product, add_none}
 use Rattle.seal_model.proofs.BlockPowers.{power_sum-both}
 use Rattle.aes_gcm.specs.Hash.{Adds, block, blocks_from}

@@ -1,8 +1,9 @@
 // The key stream (section 6.5).
 
-ghost use Rattle.std.specs.Prelude.{◌≡◌, ◌+◌, ◌*◌, ◌^◌, ◌<◌, ◌≤◌, ◌++◌, length, take, drop, IfOk, OnOk};
-ghost use Rattle.seal_model.specs.Bytes.{xor_bytes};
+ghost use Rattle.std.specs.Prelude.{◌≡◌, ℕ, ◌+◌, ◌*◌, ◌^◌, ◌<◌, ◌≤◌, List, [], length, slice_index_or, IfOk};
+ghost use Rattle.seal_model.specs.Aes.{encrypt};
 ghost use Rattle.seal_model.specs.Gcm.{counter_block, encrypted};
+ghost use Rattle.aes_gcm.specs.Stream.{partly_encrypted, with_block_added};
 
 use aes_block::Aes256;
 use std::alloc::{AllocError, Global};
@@ -31,19 +32,70 @@ pub fn add_key_stream(
     ensures { IfOk result (λ output. output.items ≡ encrypted cipher.now nonce.now text.now) }
 {
     let mut output = Vec::with_capacity(alloc, text.len() + spare)?;
-    for index in 0..text.len().div_ceil(16) {
-        let stream = cipher.encrypt_block(counter_block(nonce, index as u32 + 2));
-        push_sum(&mut output, &text[16 * index..], &stream)?;
-    }
+    output.extend_from_slice(text)?;
+    add_streams(cipher, nonce, output.as_mut_slice());
     Ok(output)
 }
 
-// Writes the first 16 bytes of `text`, or all where there are fewer, with `stream` added.
-fn push_sum(output: &mut Vec<u8>, text: &[u8], stream: &[u8; 16]) -> Result<(), AllocError>
-    ensures { OnOk result (output.new.items ≡ output.old.items ++ xor_bytes text.now stream.now) }
+// Adds the key stream, sixteen blocks at a time and the rest block by block.
+fn add_streams(cipher: &Aes256, nonce: &[u8; 12], text: &mut [u8])
+    requires { length text.old ≤ 2 ^ 32 }
+    ensures { text.new ≡ encrypted cipher.now nonce.now text.old }
 {
-    for (byte, key) in text.iter().zip(stream) {
-        output.push(*byte ^ *key)?;
+    let groups = text.len() / 256;
+    add_groups(cipher, nonce, groups, text);
+    for index in 16 * groups..text.len().div_ceil(16) {
+        let stream = cipher.encrypt_block(counter_block(nonce, index as u32 + 2));
+        add_stream(stream, index, text);
     }
-    Ok(())
+}
+
+// Adds the first `groups` groups of sixteen blocks of the key stream.
+fn add_groups(cipher: &Aes256, nonce: &[u8; 12], groups: usize, text: &mut [u8])
+    requires in_text { 256 * groups ≤ length text.old }
+    requires text_length { length text.old ≤ 2 ^ 32 }
+    ensures { text.new ≡ partly_encrypted cipher.now nonce.now text.old (16 * groups) }
+{
+    for group in 0..groups {
+        add_group(cipher, nonce, 16 * group, text);
+    }
+}
+
+// Adds the sixteen blocks of the key stream from block `first` on, from 0, where those before them are added.
+fn add_group(cipher: &Aes256, nonce: &[u8; 12], first: usize, text: &mut [u8])
+    requires in_text { 16 * first + 256 ≤ length text.old }
+    requires text_length { length text.old ≤ 2 ^ 32 }
+    ensures { (original : List ℕ) → text.old ≡ partly_encrypted cipher.now nonce.now original first
+        → text.new ≡ partly_encrypted cipher.now nonce.now original (first + 16) }
+{
+    let streams = key_streams(cipher, nonce, first);
+    for k in 0..16 {
+        add_stream(streams[k], first + k, text);
+    }
+}
+
+// Sixteen blocks of the key stream from block `first` on, from 0.
+fn key_streams(cipher: &Aes256, nonce: &[u8; 12], first: usize) -> [[u8; 16]; 16]
+    requires { first < 2 ^ 28 }
+    ensures { (k : ℕ) → k < 16
+        → slice_index_or result k [] ≡ encrypt cipher.now (counter_block nonce.now (first + k + 2)) }
+{
+    let mut blocks = [[0; 16]; 16];
+    for k in 0..16 {
+        blocks[k] = counter_block(nonce, (first + k) as u32 + 2);
+    }
+    cipher.encrypt16(&mut blocks);
+    blocks
+}
+
+// Adds a block of the key stream to block `index` of the text, from 0, or to as much of it as there is.
+fn add_stream(stream: [u8; 16], index: usize, text: &mut [u8])
+    requires { 16 * index < length text.old }
+    ensures { text.new ≡ with_block_added text.old index stream }
+{
+    let start = 16 * index;
+    let len = (text.len() - start).min(16);
+    for k in 0..len {
+        text[start + k] ^= stream[k];
+    }
 }

@@ -242,14 +242,13 @@ const LONG_TEXTS: [(usize, usize, &str); 16] = [
 
 #[test]
 fn long_texts_of_another_program(rt: HostRuntime) -> Result<(), Fail> {
-    let mut key = [0; 32];
-    for (i, byte) in key.iter_mut().enumerate() {
-        *byte = i as u8;
-    }
+    let key = <[u8; 32]>::from_hex(
+        "000102030405060708090a0b0c0d0e0f101112131415161718191a1b1c1d1e1f",
+    )?;
     let nonce = [0, 1, 2, 3, 4, 5, 6, 7, 8, 9, 10, 11];
     for (aad_len, text_len, expected) in LONG_TEXTS {
-        let aad = pattern(&rt, rt.alloc(), aad_len, 7, 3, 256)?;
-        let text = pattern(&rt, rt.alloc(), text_len, 31, 0, 251)?;
+        let aad = aad_of(&rt, rt.alloc(), aad_len)?;
+        let text = text_of(&rt, rt.alloc(), text_len)?;
         let sealed = seal(rt.alloc(), &key, &nonce, aad.as_slice(), text.as_slice())?;
         let last = sealed.as_slice().last_chunk::<16>().ok_or("no tag")?;
         assert_eq!(rt;
@@ -262,24 +261,31 @@ fn long_texts_of_another_program(rt: HostRuntime) -> Result<(), Fail> {
     Ok(())
 }
 
-// The bytes (i * factor + first) % modulus, few enough to seal.
-fn pattern(
-    rt: &impl Abort,
-    alloc: Global,
-    len: usize,
-    factor: usize,
-    first: usize,
-    modulus: usize,
-) -> Result<Vec<u8>, Fail>
+// Bytes from 0 on in steps of 31 modulo 251, few enough to seal.
+fn text_of(rt: &impl Abort, alloc: Global, len: usize) -> Result<Vec<u8>, Fail>
     ensures { IfOk result (λ bytes. vec_len bytes ≤ 2000000) }
 {
     let mut bytes = Vec::new(alloc);
-    let mut next = first;
+    let mut next: u8 = 0;
     for _i in 0..len {
-        bytes.push(next as u8)?;
-        next = (next + factor) % modulus;
+        bytes.push(next)?;
+        next = if next < 220 { next + 31 } else { next - 220 };
     }
     assert!(rt; bytes.len() <= 2_000_000);
+    Ok(bytes)
+}
+
+// Bytes from 3 on in steps of 7 modulo 256, few enough to be sealed with.
+fn aad_of(rt: &impl Abort, alloc: Global, len: usize) -> Result<Vec<u8>, Fail>
+    ensures { IfOk result (λ bytes. vec_len bytes ≤ 1000) }
+{
+    let mut bytes = Vec::new(alloc);
+    let mut next: u8 = 3;
+    for _i in 0..len {
+        bytes.push(next)?;
+        next = next.wrapping_add(7);
+    }
+    assert!(rt; bytes.len() <= 1000);
     Ok(bytes)
 }
 
@@ -304,7 +310,7 @@ const HASHES: [(usize, &str); 13] = [
 fn hashes_of_long_texts(rt: HostRuntime) -> Result<(), Fail> {
     let h = <[u8; 16]>::from_hex("66e94bd4ef8a2c3b884cfa59ca342b2e")?;
     for (len, expected) in HASHES {
-        let text = pattern(&rt, rt.alloc(), len, 31, 0, 251)?;
+        let text = text_of(&rt, rt.alloc(), len)?;
         assert_eq!(rt;
             ghash(h, text.as_slice()),
             <[u8; 16]>::from_hex(expected)?,

@@ -1,7 +1,7 @@
-use Rattle.std.proofs.Common.{◌≡◌, ℕ, w64, [], slice_index, replicate, ◌∙◌, ap, refl}
+use Rattle.std.proofs.Common.{ℕ, w64, [], slice_index, ◌∙◌, ap}
 use Rattle.std.proofs.lemmas.Simd.{get_or-replicate}
 use Rattle.seal_model.specs.Polynomial.{bits}
-use Rattle.seal_model.specs.Gcm.{block_modulus, field_product}
+use Rattle.seal_model.specs.Gcm.{field_product}
 use Rattle.seal_model.proofs.Pointwise.{lane_fits}
 use Rattle.aes_gcm.specs.Lanes.{element, joined}
 use Rattle.aes_gcm.proofs.Halves.{no_factor, whole_factor}

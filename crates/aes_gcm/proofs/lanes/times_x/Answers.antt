@@ -1,9 +1,6 @@
-use Rattle.std.proofs.Common.{w64, ℕ, ◌∙◌, ap}
+use Rattle.std.proofs.Common.{w64, ℕ}
 use Rattle.std.proofs.lemmas.Simd.{get_or-replicate}
-use Rattle.seal_model.specs.Polynomial.{bits}
-use Rattle.seal_model.specs.Lanes.{where_set}
 use Rattle.seal_model.proofs.Pointwise.{lane_fits}
-use Rattle.aes_gcm.specs.Lanes.{joined}
 use Rattle.aes_gcm.proofs.Halves.{moved_on}
 use Rattle.aes_gcm.proofs.lanes.times_x.Goals as goal
 

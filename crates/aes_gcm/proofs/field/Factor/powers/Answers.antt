@@ -1,6 +1,6 @@
 use Rattle.std.proofs.Common.{◌≡◌, ◌-◌, List, ℕ, [], ◌∷◌, slice_index, sym, ◌∙◌, ap}
 use Rattle.seal_model.specs.Polynomial.{bits}
-use Rattle.seal_model.specs.Gcm.{field_product, power}
+use Rattle.seal_model.specs.Gcm.{power}
 use Rattle.seal_model.proofs.Bits.{length-bits}
 use Rattle.seal_model.proofs.BlockField.{one_field_product}
 use Rattle.seal_model.proofs.Lists.{each_below}
