@@ -19,7 +19,8 @@ odd_test = refl
 
 with_digit : (h d : ℕ) → h < 128 → d < 2 → bit_xor (multiply 2 h) d ≡ h + h + d
 with_digit h zero p q =
-    eqb-true (bit_xor (multiply 2 h) 0) (h + h) (all_below-at 128 (λ k. bit_xor (multiply 2 k) 0 == k + k) even_test h p)
+    eqb-true (bit_xor (multiply 2 h) 0) (h + h) (all_below-at 128 (λ k. bit_xor (multiply 2 k) 0 == k + k)
+    even_test h p)
     ∙ omega arith
 with_digit h (suc zero) p q =
     eqb-true (bit_xor (multiply 2 h) 1) (h + h + 1)

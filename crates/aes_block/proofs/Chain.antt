@@ -13,7 +13,8 @@ unfolding all_below byte_power multiply byte_modulus polynomial_of bits
 square_test = refl
 
 squared : (x : ℕ) → x < 256 → linear SQUARES x ≡ byte_power x 2
-squared x h = eqb-true (linear SQUARES x) (byte_power x 2) (all_below-at 256 (λ k. linear SQUARES k == byte_power k 2) square_test x h)
+squared x h = eqb-true (linear SQUARES x) (byte_power x 2)
+    (all_below-at 256 (λ k. linear SQUARES k == byte_power k 2) square_test x h)
 
 fourth_test : all_below 256 (λ x. linear FOURTH_POWERS x == byte_power x 4) ≡ true
 unfolding all_below byte_power multiply byte_modulus polynomial_of bits
@@ -44,7 +45,8 @@ affine_by_images x h =
 
 -- the steps that the code takes give the inverse
 pub steps_invert : (x x2 x3 x12 x15 x240 x252 y : ℕ) → x < 256 → x2 ≡ linear SQUARES x → x3 ≡ multiply x2 x
-    → x12 ≡ linear FOURTH_POWERS x3 → x15 ≡ multiply x12 x3 → x240 ≡ linear SIXTEENTH_POWERS x15 → x252 ≡ multiply x240 x12
+    → x12 ≡ linear FOURTH_POWERS x3 → x15 ≡ multiply x12 x3 → x240 ≡ linear SIXTEENTH_POWERS x15
+    → x252 ≡ multiply x240 x12
     → y ≡ multiply x252 x2 → y ≡ inverse x
 steps_invert x x2 x3 x12 x15 x240 x252 y h d2 d3 d12 d15 d240 d252 dy =
     let e1 = sym (byte_power-one x h) in

@@ -9,14 +9,17 @@ lane_at x p j = slice_index (slice_index_or x p []) j
 -- block j
 abbrev pub lane : ℕ → List (List ℕ) → List ℕ
 lane j x =
-    lane_at x 0 j ∷ lane_at x 1 j ∷ lane_at x 2 j ∷ lane_at x 3 j ∷ lane_at x 4 j ∷ lane_at x 5 j ∷ lane_at x 6 j ∷ lane_at x 7 j
-    ∷ lane_at x 8 j ∷ lane_at x 9 j ∷ lane_at x 10 j ∷ lane_at x 11 j ∷ lane_at x 12 j ∷ lane_at x 13 j ∷ lane_at x 14 j ∷ lane_at x 15 j ∷ []
+    lane_at x 0 j ∷ lane_at x 1 j ∷ lane_at x 2 j ∷ lane_at x 3 j ∷ lane_at x 4 j ∷ lane_at x 5 j ∷ lane_at x 6 j
+    ∷ lane_at x 7 j
+    ∷ lane_at x 8 j ∷ lane_at x 9 j ∷ lane_at x 10 j ∷ lane_at x 11 j ∷ lane_at x 12 j ∷ lane_at x 13 j
+    ∷ lane_at x 14 j ∷ lane_at x 15 j ∷ []
 
 -- the columns of rows, one after the other
 abbrev pub columns : List (List ℕ) → List (List ℕ)
 columns rows =
     lane 0 rows ∷ lane 1 rows ∷ lane 2 rows ∷ lane 3 rows ∷ lane 4 rows ∷ lane 5 rows ∷ lane 6 rows ∷ lane 7 rows
-    ∷ lane 8 rows ∷ lane 9 rows ∷ lane 10 rows ∷ lane 11 rows ∷ lane 12 rows ∷ lane 13 rows ∷ lane 14 rows ∷ lane 15 rows ∷ []
+    ∷ lane 8 rows ∷ lane 9 rows ∷ lane 10 rows ∷ lane 11 rows ∷ lane 12 rows ∷ lane 13 rows ∷ lane 14 rows
+    ∷ lane 15 rows ∷ []
 
 -- the sum of the images of the bits of x, the lowest first
 abbrev pub linear : List ℕ → ℕ → ℕ

@@ -95,8 +95,8 @@ fn linear(x: u8x16, images: [u8; 8]) -> u8x16
     xor(image(x, 1, a), from_1)
 }
 
-// What squares, fourth and sixteenth powers and the affine map make of 1, x, x ^ 2 and so on. All are linear, the affine
-// map but for its constant.
+// What squares, fourth and sixteenth powers and the affine map make of 1, x, x ^ 2 and so on. All are linear, the
+// affine map but for its constant.
 static SQUARES: [u8; 8] = [0x01, 0x04, 0x10, 0x40, 0x1b, 0x6c, 0xab, 0x9a];
 
 static FOURTH_POWERS: [u8; 8] = [0x01, 0x10, 0x1b, 0xab, 0x5e, 0x97, 0xb3, 0xc5];
@@ -121,7 +121,8 @@ pub fn substitute(x: u8x16) -> u8x16
 
 /// A byte of MixColumns at each lane, from the bytes of its column.
 pub fn mixed(a: u8x16, b: u8x16, c: u8x16, d: u8x16) -> u8x16
-    ensures { HasLanes 16 result (λ j. mixed_byte (slice_index a j) (slice_index b j) (slice_index c j) (slice_index d j)) }
+    ensures { HasLanes 16 result (λ j. mixed_byte (slice_index a j) (slice_index b j)
+        (slice_index c j) (slice_index d j)) }
 {
     xor(double(a), xor(xor(double(b), b), xor(c, d)))
 }

@@ -1,4 +1,4 @@
--- Elements in two halves of 64 bits: x times an element, a choice, and a product by Horner's rule over half of a factor.
+-- Elements in two halves of 64 bits: x times an element, a choice, and a product by half of a factor.
 use Rattle.std.proofs.Common.{◌≡◌, ℕ, ◌+◌, ◌*◌, ◌/◌, ◌%◌, ◌^◌, ◌<◌, cond, Bool, true, false, ◌==◌, List, [], ◌++◌, length}
 use Rattle.std.proofs.Common.{bit_and, bit_or, bit_xor, refl, sym, ◌∙◌, ap, arith, add-one}
 use Rattle.std.specs.Int.Bits.{xor_zero_r, or_shifted_r}
@@ -14,7 +14,8 @@ use Rattle.aes_gcm.specs.Lanes.{joined}
 use Rattle.aes_gcm.proofs.Numbers.{modulus_bits, times_x-bits}
 
 -- a number or nothing, added
-chosen : (b : Bool) (p : List Bool) (n : ℕ) → length p ≡ 128 → add p (bits 128 (cond b n 0)) ≡ add p (scaled b (bits 128 n))
+chosen : (b : Bool) (p : List Bool) (n : ℕ) → length p ≡ 128
+    → add p (bits 128 (cond b n 0)) ≡ add p (scaled b (bits 128 n))
 unfolding bits
 chosen true p n e = refl
 chosen false p n e = add_none p e ∙ sym (add_nil p)
@@ -28,24 +29,30 @@ cond-lt true l p = p
 cond-lt false l p = omega arith
 
 -- halves added are numbers added
-joined-xor : (h l k m : ℕ) → l < 2 ^ 64 → m < 2 ^ 64 → joined (bit_xor h k) (bit_xor l m) ≡ bit_xor (joined h l) (joined k m)
+joined-xor : (h l k m : ℕ) → l < 2 ^ 64 → m < 2 ^ 64
+    → joined (bit_xor h k) (bit_xor l m) ≡ bit_xor (joined h l) (joined k m)
 joined-xor h l k m p q = sym (xor_block 64 h k l m p q)
 
 -- an element added where a test says so
 pub added_where : (b : Bool) (h l k m : ℕ) → l < 2 ^ 64 → m < 2 ^ 64
-    → bits 128 (joined (bit_xor h (cond b k 0)) (bit_xor l (cond b m 0))) ≡ add (bits 128 (joined h l)) (scaled b (bits 128 (joined k m)))
+    → bits 128 (joined (bit_xor h (cond b k 0)) (bit_xor l (cond b m 0))) ≡ add (bits 128 (joined h l))
+    (scaled b (bits 128 (joined k m)))
 added_where b h l k m p q =
-    ap (bits 128) (joined-xor h l (cond b k 0) (cond b m 0) p (cond-lt b m q) ∙ ap (bit_xor (joined h l)) (both_chosen b k m))
-    ∙ bits-xor 128 (joined h l) (cond b (joined k m) 0) ∙ chosen b (bits 128 (joined h l)) (joined k m) (length-bits 128 (joined h l))
+    ap (bits 128) (joined-xor h l (cond b k 0) (cond b m 0) p (cond-lt b m q)
+    ∙ ap (bit_xor (joined h l)) (both_chosen b k m))
+    ∙ bits-xor 128 (joined h l) (cond b (joined k m) 0)
+    ∙ chosen b (bits 128 (joined h l)) (joined k m) (length-bits 128 (joined h l))
 
 -- x times an element, as the code computes it
 pub moved_on : (h l : ℕ) → h < 2 ^ 64 → l < 2 ^ 64
-    → bits 128 (joined (bit_xor (h / 2 ^ 1) (where_set l 1 0xe100000000000000)) (bit_or (l / 2 ^ 1) (h * 2 ^ 63 % 2 ^ 64)))
+    → bits 128 (joined (bit_xor (h / 2 ^ 1) (where_set l 1 0xe100000000000000))
+    (bit_or (l / 2 ^ 1) (h * 2 ^ 63 % 2 ^ 64)))
     ≡ times_x block_modulus (bits 128 (joined h l))
 moved_on h l p q =
     let x = joined h l in let b = bit_and l 1 == 1 in
     let low = h % 2 * 2 ^ 63 + l / 2 in
-    let parts : bit_or (l / 2 ^ 1) (h * 2 ^ 63 % 2 ^ 64) ≡ low = ap (bit_or (l / 2 ^ 1)) on_top ∙ or_shifted_r (h % 2) 63 (l / 2) (omega arith) in
+    let parts : bit_or (l / 2 ^ 1) (h * 2 ^ 63 % 2 ^ 64) ≡ low = ap (bit_or (l / 2 ^ 1)) on_top
+    ∙ or_shifted_r (h % 2) 63 (l / 2) (omega arith) in
     let whole : joined (h / 2 ^ 1) low ≡ x / 2 = omega arith in
     let lowest : bit_and l 1 ≡ bit_and x 1 = and_mask l 1 ∙ omega arith ∙ sym (and_mask x 1) in
     ap (λ n. bits 128 (joined (bit_xor (h / 2 ^ 1) (cond b 0xe100000000000000 0)) n)) (parts ∙ sym (xor_zero_r low))
@@ -65,8 +72,10 @@ moved_on h l p q =
 
 -- one coefficient more of half of a factor
 pub coefficient_more : (q before : List Bool) (half i product next after : ℕ) → length q ≡ 128
-    → bits 128 product ≡ field_product (bits i half ++ before) q → bits 128 next ≡ times_x block_modulus (bits 128 product)
-    → bits 128 after ≡ add (bits 128 next) (scaled (bit half i) q) → bits 128 after ≡ field_product (bits (i + 1) half ++ before) q
+    → bits 128 product ≡ field_product (bits i half ++ before) q
+    → bits 128 next ≡ times_x block_modulus (bits 128 product)
+    → bits 128 after ≡ add (bits 128 next) (scaled (bit half i) q)
+    → bits 128 after ≡ field_product (bits (i + 1) half ++ before) q
 unfolding bits
 coefficient_more q before half i product next after long so_far moved is =
     is

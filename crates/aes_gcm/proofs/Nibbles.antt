@@ -41,11 +41,13 @@ product-append [] p q e =
     sym (add_zeros (field_product p q) block_modulus (same (field_product p q) (length-field_product p q)))
     ∙ ap (add (field_product p q)) (sym (field_product-nil q))
 product-append (a ∷ d) p q e =
-    let x = times_x block_modulus in let high = times_x_power (length d) (field_product p q) in let low = field_product d q in
+    let x = times_x block_modulus in let high = times_x_power (length d) (field_product p q) in
+    let low = field_product d q in
     field_product-cons a (d ++ p) q e
     ∙ ap (λ r. add (x r) (scaled a q)) (product-append d p q e)
     ∙ ap (λ r. add r (scaled a q)) (times_x-add high low block_modulus
-    (same high (length-times_x_power (length d) (field_product p q) (length-field_product p q))) (same low (length-field_product d q)))
+    (same high (length-times_x_power (length d) (field_product p q) (length-field_product p q)))
+    (same low (length-field_product d q)))
     ∙ add_assoc (x high) (x low) (scaled a q)
     ∙ ap (add (x high)) (sym (field_product-cons a d q e))
 
@@ -76,15 +78,18 @@ rests : (r : ℕ) → r < 16 → times_x_power 4 (bits 128 r) ≡ bits 128 (get_
 rests r h =
     let p = times_x_power 4 (bits 128 r) in
     sym (bits-of_length 128 p (length-times_x_power 4 (bits 128 r) (length-bits 128 r)))
-    ∙ ap (bits 128) (eqb-true (number_of p) (get_or RESTS r 0) (all_below-at 16 (λ k. number_of (times_x_power 4 (bits 128 k)) == get_or RESTS k 0) rest_test r h))
+    ∙ ap (bits 128) (eqb-true (number_of p) (get_or RESTS r 0)
+    (all_below-at 16 (λ k. number_of (times_x_power 4 (bits 128 k)) == get_or RESTS k 0) rest_test r h))
 
-pub four_steps : (z : ℕ) → z < 2 ^ 128 → bits 128 (bit_xor (z / 2 ^ 4) (get_or RESTS (bit_and z 15) 0)) ≡ times_x_power 4 (bits 128 z)
+pub four_steps : (z : ℕ) → z < 2 ^ 128 → bits 128 (bit_xor (z / 2 ^ 4) (get_or RESTS (bit_and z 15) 0))
+    ≡ times_x_power 4 (bits 128 z)
 four_steps z h =
     let q = z / 2 ^ 4 in let r = z % 2 ^ 4 in
     let low : bit_and z 15 ≡ r = and_mask z 4 in
     let parted : bit_xor (q * 2 ^ 4) r ≡ z = ap (λ n. bit_xor n r) zero_low ∙ apart ∙ whole in
     bits-xor 128 q (get_or RESTS (bit_and z 15) 0)
-    ∙ (λ t. add (sym (sixteen_times q (omega arith)) t) ((ap (λ k. bits 128 (get_or RESTS k 0)) low ∙ sym (rests r (omega arith))) t))
+    ∙ (λ t. add (sym (sixteen_times q (omega arith)) t)
+    ((ap (λ k. bits 128 (get_or RESTS k 0)) low ∙ sym (rests r (omega arith))) t))
     ∙ sym (times_x_power-add 4 (bits 128 (q * 2 ^ 4)) (bits 128 r) (length-bits 128 (q * 2 ^ 4)) (length-bits 128 r))
     ∙ ap (times_x_power 4) (sym (bits-xor 128 (q * 2 ^ 4) r) ∙ ap (bits 128) parted)
   where
@@ -111,25 +116,31 @@ next_four left right product next digit entry i is chosen so_far moved =
     let q = bits 128 right in let high = bits 4 (left / 2 ^ (4 * i)) in
     let longer : 4 + 4 * i ≡ 4 * (i + 1) = omega arith in
     let n = left / 2 ^ (4 * i) in
-    let digits : bits 4 digit ≡ high = ap (bits 4) is ∙ sym (bits-low 4 (n / 2 ^ 4) (n % 2 ^ 4)) ∙ ap (bits 4) (shr_split n 4) in
+    let digits : bits 4 digit ≡ high = ap (bits 4) is ∙ sym (bits-low 4 (n / 2 ^ 4) (n % 2 ^ 4))
+    ∙ ap (bits 4) (shr_split n 4) in
     bits-xor 128 next entry
     ∙ (λ t. add ((moved ∙ ap (times_x_power 4) so_far) t) ((chosen ∙ ap (λ d. field_product d q) digits) t))
-    ∙ ap (λ k. add (times_x_power k (field_product (bits (4 * i) left) q)) (field_product high q)) (sym (length-bits 4 n))
+    ∙ ap (λ k. add (times_x_power k (field_product (bits (4 * i) left) q)) (field_product high q))
+    (sym (length-bits 4 n))
     ∙ sym (product-append high (bits (4 * i) left) q (length-bits 128 right))
     ∙ ap (λ d. field_product d q) (sym (bits-append 4 (4 * i) left) ∙ ap (λ k. bits k left) longer)
 
 -- ---- the table
-module _ (h h1 h2 h3 : ℕ) (e1 : bits 128 h1 ≡ times_x block_modulus (bits 128 h)) (e2 : bits 128 h2 ≡ times_x block_modulus (bits 128 h1))
+module _ (h h1 h2 h3 : ℕ) (e1 : bits 128 h1 ≡ times_x block_modulus (bits 128 h))
+    (e2 : bits 128 h2 ≡ times_x block_modulus (bits 128 h1))
     (e3 : bits 128 h3 ≡ times_x block_modulus (bits 128 h2)) where
   Entry : ℕ → ℕ → Type 0
   Entry n x = bits 128 x ≡ field_product (bits 4 n) (bits 128 h)
 
   once : (z : List Bool) → field_product (true ∷ zeros z) (bits 128 h) ≡ bits 128 h
   unfolding field_product block_modulus
-  once z = one_times true modulus_rest z (bits 128 h) (Same-length (bits 128 h) (true ∷ modulus_rest) (length-bits 128 h))
+  once z = one_times true modulus_rest z (bits 128 h)
+      (Same-length (bits 128 h) (true ∷ modulus_rest) (length-bits 128 h))
 
-  moved : (p : List Bool) → field_product (false ∷ p) (bits 128 h) ≡ times_x block_modulus (field_product p (bits 128 h))
-  moved p = field_product-cons false p (bits 128 h) (length-bits 128 h) ∙ add_nil (times_x block_modulus (field_product p (bits 128 h)))
+  moved : (p : List Bool) → field_product (false ∷ p) (bits 128 h) ≡ times_x block_modulus
+      (field_product p (bits 128 h))
+  moved p = field_product-cons false p (bits 128 h) (length-bits 128 h)
+      ∙ add_nil (times_x block_modulus (field_product p (bits 128 h)))
 
   entry_0 : Entry 0 0
   unfolding Entry bits field_product block_modulus
@@ -147,18 +158,21 @@ module _ (h h1 h2 h3 : ℕ) (e1 : bits 128 h1 ≡ times_x block_modulus (bits 12
   unfolding Entry bits
   entry_2 =
       let x = times_x block_modulus in
-      e2 ∙ ap x e1 ∙ sym (moved (false ∷ true ∷ false ∷ []) ∙ ap x (moved (true ∷ false ∷ []) ∙ ap x (once (false ∷ []))))
+      e2 ∙ ap x e1 ∙ sym (moved (false ∷ true ∷ false ∷ [])
+      ∙ ap x (moved (true ∷ false ∷ []) ∙ ap x (once (false ∷ []))))
 
   entry_1 : Entry 1 h3
   unfolding Entry bits
   entry_1 =
       let x = times_x block_modulus in
-      e3 ∙ ap x (e2 ∙ ap x e1) ∙ sym (moved (false ∷ false ∷ true ∷ []) ∙ ap x (moved (false ∷ true ∷ []) ∙ ap x (moved (true ∷ []) ∙ ap x (once []))))
+      e3 ∙ ap x (e2 ∙ ap x e1) ∙ sym (moved (false ∷ false ∷ true ∷ [])
+      ∙ ap x (moved (false ∷ true ∷ []) ∙ ap x (moved (true ∷ []) ∙ ap x (once []))))
 
   both : (a b n x y : ℕ) → bits 4 n ≡ add (bits 4 a) (bits 4 b) → Entry a x → Entry b y → Entry n (bit_xor x y)
   unfolding Entry
   both a b n x y e f g =
-      bits-xor 128 x y ∙ (λ t. add (f t) (g t)) ∙ sym (field_product_add (bits 4 a) (bits 4 b) (bits 128 h)) ∙ ap (λ d. field_product d (bits 128 h)) (sym e)
+      bits-xor 128 x y ∙ (λ t. add (f t) (g t)) ∙ sym (field_product_add (bits 4 a) (bits 4 b) (bits 128 h))
+      ∙ ap (λ d. field_product d (bits 128 h)) (sym e)
 
   entry_3 : Entry 3 (bit_xor h2 h3)
   unfolding bits
@@ -204,8 +218,10 @@ module _ (h h1 h2 h3 : ℕ) (e1 : bits 128 h1 ≡ times_x block_modulus (bits 12
   unfolding bits
   entry_15 = both 14 1 15 (bit_xor (bit_xor h h1) h2) h3 refl entry_14 entry_1
 
-  pub all_entries : AreMultiples (0 ∷ h3 ∷ h2 ∷ bit_xor h2 h3 ∷ h1 ∷ bit_xor h1 h3 ∷ bit_xor h1 h2 ∷ bit_xor (bit_xor h1 h2) h3 ∷ h
-      ∷ bit_xor h h3 ∷ bit_xor h h2 ∷ bit_xor (bit_xor h h2) h3 ∷ bit_xor h h1 ∷ bit_xor (bit_xor h h1) h3 ∷ bit_xor (bit_xor h h1) h2
+  pub all_entries : AreMultiples (0 ∷ h3 ∷ h2 ∷ bit_xor h2 h3 ∷ h1 ∷ bit_xor h1 h3 ∷ bit_xor h1 h2
+      ∷ bit_xor (bit_xor h1 h2) h3 ∷ h
+      ∷ bit_xor h h3 ∷ bit_xor h h2 ∷ bit_xor (bit_xor h h2) h3 ∷ bit_xor h h1 ∷ bit_xor (bit_xor h h1) h3
+      ∷ bit_xor (bit_xor h h1) h2
       ∷ bit_xor (bit_xor (bit_xor h h1) h2) h3 ∷ []) (bits 128 h)
   unfolding Entry
   all_entries = each_below _ 16 (

@@ -26,10 +26,12 @@ xor-append [] (b ∷ t) u v e = cc
 xor-append (a ∷ s) [] u v e = cc
 xor-append (a ∷ s) (b ∷ t) u v e = ap (λ w. bit_xor a b ∷ w) (xor-append s t u v (cc))
 
-length-sum : (key nonce text : List ℕ) (i : ℕ) → 16 * i ≤ length text → length (xor_bytes (take (16 * i) text) (key_stream key nonce i)) ≡ 16 * i
+length-sum : (key nonce text : List ℕ) (i : ℕ) → 16 * i ≤ length text
+    → length (xor_bytes (take (16 * i) text) (key_stream key nonce i)) ≡ 16 * i
 length-sum key nonce text i h =
     let front = length-take-le (16 * i) text h in
-    length-xor_bytes (take (16 * i) text) (key_stream key nonce i) (omega (arith, front, length-key_stream key nonce i)) ∙ front
+    length-xor_bytes (take (16 * i) text) (key_stream key nonce i)
+    (omega (arith, front, length-key_stream key nonce i)) ∙ front
 
 -- one block more
 pub stream-step : (key nonce text : List ℕ) (i : ℕ) → 16 * i ≤ length text
@@ -86,7 +88,8 @@ byte_added text stream start k h g =
     let long : length front ≡ start = length-take-le start text (omega arith) in
     let place : start + k - start ≡ k = omega arith in
     ap (λ b. set (front ++ summed s stream k) (start + k) (bit_xor b (get_or stream k 0)))
-    (get_or-append_right front (summed s stream k) start (start + k) 0 long (omega arith) ∙ ap (λ j. get_or (summed s stream k) j 0) place)
+    (get_or-append_right front (summed s stream k) start (start + k) 0 long (omega arith)
+    ∙ ap (λ j. get_or (summed s stream k) j 0) place)
     ∙ set-append_right front (summed s stream k) start (start + k) _ long (omega arith)
     ∙ ap (λ j. front ++ set (summed s stream k) j (bit_xor (get_or (summed s stream k) k 0) (get_or stream k 0))) place
     ∙ ap (λ u. front ++ u) (xor-step s stream k (omega (arith, length-drop start text)) g)
@@ -94,7 +97,8 @@ byte_added text stream start k h g =
 pub block_added : (text stream : List ℕ) (i k : ℕ) → length stream ≡ 16 → k ≡ min (length text - 16 * i) 16
     → take (16 * i) text ++ summed (drop (16 * i) text) stream k ≡ with_block_added text i stream
 block_added text stream i k e is =
-    ap (λ u. take (16 * i) text ++ u) (added_all (drop (16 * i) text) stream k e (is ∙ ap (λ n. min n 16) (sym (length-drop (16 * i) text))))
+    ap (λ u. take (16 * i) text ++ u) (added_all (drop (16 * i) text) stream k e (is
+    ∙ ap (λ n. min n 16) (sym (length-drop (16 * i) text))))
 
 pub length-partly : (key nonce text : List ℕ) (i : ℕ) → length (partly_encrypted key nonce text i) ≡ length text
 length-partly key nonce text i =
@@ -105,24 +109,30 @@ length-partly key nonce text i =
     ∙ sym (length-append front (drop (16 * i) text)) ∙ ap length (take-append-drop (16 * i) text)
 
 -- one block more
-pub block_more : (key nonce text old new stream : List ℕ) (i : ℕ) → 16 * i < length text → old ≡ partly_encrypted key nonce text i
+pub block_more : (key nonce text old new stream : List ℕ) (i : ℕ) → 16 * i < length text
+    → old ≡ partly_encrypted key nonce text i
     → stream ≡ encrypt key (counter_block nonce (i + 2)) → new ≡ with_block_added old i stream
     → new ≡ partly_encrypted key nonce text (i + 1)
 block_more key nonce text old new stream i h e es is =
     let sum = xor_bytes (take (16 * i) text) (key_stream key nonce i) in let rest = drop (16 * i) text in
     let long : length sum ≡ 16 * i = length-sum key nonce text i (omega arith) in
-    let front : take (16 * i) (sum ++ rest) ≡ sum = ap (λ n. take n (sum ++ rest)) (sym long) ∙ take-append_seam sum rest in
-    let back : drop (16 * i) (sum ++ rest) ≡ rest = ap (λ n. drop n (sum ++ rest)) (sym long) ∙ drop-append_seam sum rest in
+    let front : take (16 * i) (sum ++ rest) ≡ sum = ap (λ n. take n (sum ++ rest)) (sym long)
+    ∙ take-append_seam sum rest in
+    let back : drop (16 * i) (sum ++ rest) ≡ rest = ap (λ n. drop n (sum ++ rest)) (sym long)
+    ∙ drop-append_seam sum rest in
     let longer : 16 * i + 16 ≡ 16 * (i + 1) = omega arith in
     is ∙ (λ t. with_block_added (e t) i (es t))
     ∙ (λ t. front t ++ (xor_bytes (back t) (encrypt key (counter_block nonce (i + 2))) ++ drop 16 (back t)))
     ∙ sym (append_assoc sum (xor_bytes rest (encrypt key (counter_block nonce (i + 2)))) (drop 16 rest))
-    ∙ (λ t. sym (stream-step key nonce text i (omega arith)) t ++ (drop-drop 16 (16 * i) text ∙ ap (λ n. drop n text) longer) t)
+    ∙ (λ t. sym (stream-step key nonce text i (omega arith)) t ++ (drop-drop 16 (16 * i) text
+    ∙ ap (λ n. drop n text) longer) t)
 
 -- all blocks
-pub blocks_all : (key nonce text : List ℕ) (i : ℕ) → i ≡ block_count (length text) → partly_encrypted key nonce text i ≡ encrypted key nonce text
+pub blocks_all : (key nonce text : List ℕ) (i : ℕ) → i ≡ block_count (length text)
+    → partly_encrypted key nonce text i ≡ encrypted key nonce text
 blocks_all key nonce text i e =
-    (λ t. stream-whole key nonce text i e t ++ drop_all (16 * i) text (omega arith) t) ∙ append-nil (encrypted key nonce text)
+    (λ t. stream-whole key nonce text i e t ++ drop_all (16 * i) text (omega arith) t)
+    ∙ append-nil (encrypted key nonce text)
 
 pub blocks_none : (key nonce text : List ℕ) → text ≡ partly_encrypted key nonce text 0
 unfolding key_stream

@@ -20,20 +20,24 @@ pub adds_one : (h sum number after : ℕ) (block : List Bool) → bits 128 numbe
 adds_one h sum number after block element product blocks before =
     product
     ∙ ap (λ p. field_product p (bits 128 h)) (bits-xor 128 sum number ∙ (λ i. add (before i) (element i)))
-    ∙ sym (power_sum-append (bits 128 h) block blocks (length-bits 128 h) (sym (ap length element) ∙ length-bits 128 number))
+    ∙ sym (power_sum-append (bits 128 h) block blocks (length-bits 128 h) (sym (ap length element)
+    ∙ length-bits 128 number))
 
 -- eight blocks, each times its power, the sum so far added to the first
 pub adds_eight : (h before after a b c d e f g i : List Bool) → length i ≡ 128
-    → after ≡ sum_of_eight (λ j. field_product (slice_index_or (add before a ∷ b ∷ c ∷ d ∷ e ∷ f ∷ g ∷ i ∷ []) j []) (power h (8 - j)))
+    → after ≡ sum_of_eight (λ j. field_product (slice_index_or (add before a ∷ b ∷ c ∷ d ∷ e ∷ f ∷ g ∷ i ∷ []) j [])
+    (power h (8 - j)))
     → Adds h before after (a ∷ b ∷ c ∷ d ∷ e ∷ f ∷ g ∷ i ∷ [])
 unfolding power_sum
 adds_eight h before after a b c d e f g i long is blocks start =
     let term = λ (p : List Bool) (n : ℕ). field_product p (power h n) in
-    let rest = λ (z : List Bool). add (term b 7) (add (term c 6) (add (term d 5) (add (term e 4) (add (term f 3) (add (term g 2) z))))) in
+    let rest = λ (z : List Bool). add (term b 7) (add (term c 6)
+    (add (term d 5) (add (term e 4) (add (term f 3) (add (term g 2) z))))) in
     is
     ∙ (λ t. add (field_product_add before a (power h 8) t) (rest (term i 1)))
     ∙ add_assoc (term before 8) (term a 8) (rest (term i 1))
-    ∙ (λ t. add (term (start t) 8) (add (term a 8) (rest (sym (add_none (term i 1) (length-field_product i (power h 1))) t))))
+    ∙ (λ t. add (term (start t) 8) (add (term a 8)
+    (rest (sym (add_none (term i 1) (length-field_product i (power h 1))) t))))
     ∙ sym (power_sum-both h blocks (a ∷ b ∷ c ∷ d ∷ e ∷ f ∷ g ∷ i ∷ []))
 
 pub adds_none : (h sum : List Bool) → Adds h sum sum []
@@ -71,9 +75,11 @@ pub adds_more : (h before between after : List Bool) (s : List ℕ) (n k : ℕ)
     → Adds h between after (map polynomial_of (blocks_from n k s))
     → Adds h before after (map polynomial_of (first_blocks (k + n) s))
 adds_more h before between after s n k f g blocks e =
-    adds_both h before between after (map polynomial_of (first_blocks k s)) (map polynomial_of (blocks_from n k s)) f g blocks e
+    adds_both h before between after (map polynomial_of (first_blocks k s)) (map polynomial_of (blocks_from n k s))
+    f g blocks e
     ∙ ap (λ t. power_sum h (blocks ++ t))
-    (sym (map-append polynomial_of (first_blocks k s) (blocks_from n k s)) ∙ ap (map polynomial_of) (sym (first_blocks-more n k s)))
+    (sym (map-append polynomial_of (first_blocks k s) (blocks_from n k s))
+    ∙ ap (map polynomial_of) (sym (first_blocks-more n k s)))
 
 pub div_ceil-16 : (n : ℕ) → div_ceil n 16 ≡ block_count n
 div_ceil-16 n = omega arith

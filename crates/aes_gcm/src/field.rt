@@ -49,8 +49,8 @@ fn times_x4(element: u128) -> u128
     (element >> 4) ^ RESTS[(element & 15) as usize]
 }
 
-/// An element with its multiples by the sixteen polynomials below x ^ 4, so that products with it go by four coefficients
-/// at a time. A contract sees the element.
+/// An element with its multiples by the sixteen polynomials below x ^ 4, so that products with it go by four
+/// coefficients at a time. A contract sees the element.
 #[derive(Drop)]
 pub struct Factor {
     element: u128,

@@ -39,7 +39,8 @@ pub fn absorb(sum: u128, h: &Factor, bytes: &[u8]) -> u128
 // The sum with the blocks of the first `groups` groups of eight.
 fn absorb_groups(sum: u128, h: &Factor, bytes: &[u8], groups: usize) -> u128
     requires { 128 * groups ≤ length bytes.now }
-    ensures { Adds (bits 128 h.now) (bits 128 sum) (bits 128 result) (map polynomial_of (first_blocks (8 * groups) bytes.now)) }
+    ensures { Adds (bits 128 h.now) (bits 128 sum) (bits 128 result)
+        (map polynomial_of (first_blocks (8 * groups) bytes.now)) }
 {
     if groups == 0 {
         return sum;
@@ -57,7 +58,8 @@ fn absorb_eight(sum: u128, h: &Factor, powers: Elements, bytes: &[u8], index: us
     requires in_bytes { 16 * index + 128 ≤ length bytes.now }
     requires are_powers { (j : ℕ) → j < 8
         → bits 128 (element powers.high powers.low j) ≡ power (bits 128 h.now) (8 - j) }
-    ensures { Adds (bits 128 h.now) (bits 128 sum) (bits 128 result) (map polynomial_of (blocks_from 8 index bytes.now)) }
+    ensures { Adds (bits 128 h.now) (bits 128 sum) (bits 128 result)
+        (map polynomial_of (blocks_from 8 index bytes.now)) }
 {
     let blocks = Elements::new([
         sum ^ element_at(bytes, index),

@@ -81,7 +81,8 @@ fn product(high: u64x8, low: u64x8, right: Elements) -> Elements
 // By Horner's rule over the coefficients of half of each left factor: `product` is the product by those before them.
 fn times_half(product: Elements, half: u64x8, right: Elements) -> Elements
     ensures { (j : ℕ) → j < 8 → (before : List Bool)
-        → bits 128 (element product.high product.low j) ≡ field_product before (bits 128 (element right.high right.low j))
+        → bits 128 (element product.high product.low j)
+        ≡ field_product before (bits 128 (element right.high right.low j))
         → bits 128 (element result.high result.low j)
         ≡ field_product (bits 64 (slice_index half j) ++ before) (bits 128 (element right.high right.low j)) }
 {

@@ -1,4 +1,5 @@
-//! AES-256-GCM (SP 800-38D) with a nonce of 96 bits and a tag of 128, block by block.
+//! AES-256-GCM (SP 800-38D) with a nonce of 96 bits and a tag of 128: the key stream by sixteen blocks and GHASH by
+//! eight over lanes, and the rest block by block.
 //!
 //! No claim is made on time, or on what a cache shows of a key.
 #![tactic(auto)]
@@ -60,7 +61,7 @@ pub fn open(
     requires sealed_length { length sealed.now ≤ 2 ^ 32 }
     ensures answer { IfOk result (λ opened. opened ≡ unseal key.now nonce.now aad.now sealed.now) }
 
-    // A sealed text that opens to nothing takes no memory.
+    // Where the sealed text opens to nothing the answer is None, and never NoMemory.
     ensures refused { unseal key.now nonce.now aad.now sealed.now ≡ None → result ≡ Ok None }
 {
     let Some((ciphertext, expected)) = sealed.split_last_chunk::<16>() else {

@@ -218,9 +218,9 @@ fn hash_of_one_block_and_of_two(rt: HostRuntime) -> Result<(), Fail> {
     Ok(())
 }
 
-// The lengths of additional data and of a text, and the last 16 bytes of the sealed text, by OpenSSL. The key has the bytes
-// 00 to 1f and the nonce 00 to 0b. The lengths lie about groups of eight and of sixteen blocks, and past what a counter of
-// 8 or of 16 bits could count and a length of 11 bits could tell.
+// The lengths of additional data and of a text, and the last 16 bytes of the sealed text, by OpenSSL. The key has the
+// bytes 00 to 1f and the nonce 00 to 0b. The lengths lie about groups of eight and of sixteen blocks, and past what a
+// counter of 8 or of 16 bits could count and a length of 11 bits could tell.
 const LONG_TEXTS: [(usize, usize, &str); 16] = [
     (0, 127, "b6ae67428530f634a0e272c9bb861e20"),
     (0, 128, "e5ab8d0db06a33b87c4a561a1adf4b00"),

@@ -1,5 +1,6 @@
 -- The ring of remainders modulo x ^ n + low, where low is `l ∷ ls` and n its length.
 use Rattle.std.proofs.Common.{◌≡◌, Bool, true, false, List, [], ◌∷◌, ◌++◌, refl, sym, ◌∙◌, ap, subst}
+use Rattle.std.proofs.lemmas.List.{append-nil}
 use Rattle.seal_model.specs.Polynomial.{plus, add, scaled, product, zeros, but_last, last_of, times_x, remainder}
 
 -- two lists of one length
@@ -144,12 +145,8 @@ remainder-padded (a ∷ p) z low s =
     ∙ (λ i. add (a ∷ []) (add (but_last-padded false p z i) (scaled (last_of-padded false p z i) low)))
     ∙ (λ i. plus_comm a false i ∷ (p ++ zeros z))
 
-pub append_nil : (p : List Bool) → p ++ [] ≡ p
-append_nil [] = refl
-append_nil (a ∷ p) = ap (λ x. a ∷ x) (append_nil p)
-
 pub remainder_same : (p low : List Bool) → Same p low → remainder low p ≡ p
-remainder_same p low s = remainder-padded p [] low (subst (λ x. Same x low) (sym (append_nil p)) s) ∙ append_nil p
+remainder_same p low s = remainder-padded p [] low (subst (λ x. Same x low) (sym (append-nil p)) s) ∙ append-nil p
 
 -- ---- remainders of products
 add_false : (u : List Bool) (l : Bool) (ls : List Bool) → Same u (l ∷ ls) → add (false ∷ []) u ≡ u

@@ -16,10 +16,12 @@ field_product_one p e = field_product_comm p field_one ∙ one_field_product p e
 
 pub power-add : (h : List Bool) (m n : ℕ) → field_product (power h m) (power h n) ≡ power h (m + n)
 unfolding power
-power-add h m zero = let same : m ≡ m + 0 = omega arith in field_product_one (power h m) (length-power h m) ∙ ap (power h) same
+power-add h m zero = let same : m ≡ m + 0 = omega arith in field_product_one (power h m) (length-power h m)
+    ∙ ap (power h) same
 power-add h m (suc n) =
     let longer : suc (m + n) ≡ m + suc n = omega arith in
-    sym (field_product_assoc (power h m) (power h n) h) ∙ ap (λ p. field_product p h) (power-add h m n) ∙ ap (power h) longer
+    sym (field_product_assoc (power h m) (power h n) h) ∙ ap (λ p. field_product p h) (power-add h m n)
+    ∙ ap (power h) longer
 
 zeros_field_product : (p : List Bool) → field_product (replicate 128 false) p ≡ replicate 128 false
 unfolding field_product block_modulus
@@ -31,7 +33,8 @@ pub power_sum-both : (h : List Bool) (s t : List (List Bool))
 unfolding power_sum
 power_sum-both h [] t =
     sym (ap (λ z. add z (power_sum h t)) (zeros_field_product (power h (length t)))
-    ∙ zeros_add (power_sum h t) (true ∷ modulus_rest) (Same-length (power_sum h t) (true ∷ modulus_rest) (length-power_sum h t)))
+    ∙ zeros_add (power_sum h t) (true ∷ modulus_rest)
+    (Same-length (power_sum h t) (true ∷ modulus_rest) (length-power_sum h t)))
 power_sum-both h (b ∷ s) t =
     let p = power h (suc (length s)) in let q = power h (length t) in let sum = power_sum h s in
     let longer : suc (length (s ++ t)) ≡ suc (length s) + length t = omega (arith, length-append s t) in

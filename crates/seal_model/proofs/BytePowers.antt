@@ -38,7 +38,7 @@ power_power x y m zero e = let none : 0 ≡ m * 0 = omega arith in ap (byte_powe
 power_power x y m (suc n) e =
     power_product x (byte_power y n) y (m * n) m (power_power x y m n e) e ∙ ap (byte_power x) (sym (mul-suc m n))
 
--- ---- the inverse: the 254th power of each byte, by a test. Each step is a function, so that its value is computed once.
+-- ---- the inverse: the 254th power of each byte, by a test. A step is a function, so its value is computed once.
 unfoldable square : ℕ → ℕ
 square y = multiply y y
 

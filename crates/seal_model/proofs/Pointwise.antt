@@ -44,7 +44,8 @@ module _ (n : ℕ) where
 
   -- a choice between b and zeros, by the comparison of two vectors
   compared : (xs : List ℕ) (y : ℕ) (b : List ℕ) → length xs ≡ n → length b ≡ n
-      → HasLanes n (sel_l (zip2 eqb xs (replicate n y)) b (replicate n 0)) (λ i. cond (eqb (get_or xs i 0) y) (get_or b i 0) 0)
+      → HasLanes n (sel_l (zip2 eqb xs (replicate n y)) b (replicate n 0))
+      (λ i. cond (eqb (get_or xs i 0) y) (get_or b i 0) 0)
   compared xs y b p q =
       let tests = zip2 eqb xs (replicate n y) in
       let ly : length (replicate n y) ≡ n = length-replicate n y in
@@ -60,10 +61,12 @@ module _ (n : ℕ) where
 
   -- b where the vector a has a bit, as comparing and selecting computes it
   pub where_bit_set : (w : Width) (a : List ℕ) (bit : ℕ) (b : List ℕ) → length a ≡ n → length b ≡ n
-      → HasLanes n (sel_l (map (top (hbits w)) (zip2 (λ x y. cond (eqb x y) (2 ^ bits w - 1) 0) (zip2 bit_and a (replicate n bit))
+      → HasLanes n (sel_l (map (top (hbits w)) (zip2 (λ x y. cond (eqb x y) (2 ^ bits w - 1) 0)
+      (zip2 bit_and a (replicate n bit))
       (replicate n bit))) b (replicate n 0)) (λ i. where_set (get_or a i 0) bit (get_or b i 0))
   where_bit_set w a bit b p q =
-      let masked = lanes_with bit_and a bit p in let chosen = compared (zip2 bit_and a (replicate n bit)) bit b masked.long q in
+      let masked = lanes_with bit_and a bit p in let chosen =
+      compared (zip2 bit_and a (replicate n bit)) bit b masked.long q in
       subst (λ tests. HasLanes n (sel_l tests b (replicate n 0)) (λ i. where_set (get_or a i 0) bit (get_or b i 0)))
       (sym (tops_compared w eqb (zip2 bit_and a (replicate n bit)) (replicate n bit)))
       (record {

@@ -1,4 +1,4 @@
--- AES-256 (FIPS 197). A block is 4 by 4 bytes, written column by column; section numbers are the standard's.
+-- AES-256 (FIPS 197 of 2001). A block is 4 by 4 bytes, written column by column; section numbers are the standard's.
 use Rattle.std.specs.Prelude.{ℕ, zero, suc, ◌+◌, ◌-◌, ◌*◌, ◌/◌, ◌%◌, Bool, true, false, if◌then◌else◌, ◌==◌, nat_lt, List, [], ◌∷◌, ◌++◌, map, reverse, bit_xor, slice_index, slice_index_or}
 use Rattle.seal_model.specs.Polynomial.{plus, product, remainder, bit, bits, number_of}
 use Rattle.seal_model.specs.Bytes.{xor_bytes}

@@ -35,7 +35,7 @@ pub record IsBlockRing : Type 0 where
 abbrev pub BlockModulusIsR : Type 0
 BlockModulusIsR = bytes_of 16 block_modulus ≡ 0xe1 ∷ replicate 15 0
 
--- GHASH goes block by block: with one more, this is added to the sum so far, and all is multiplied by h (SP 800-38D, 6.4)
+-- GHASH goes block by block: a further one is added to the sum so far, and all is multiplied by h (SP 800-38D, 6.4)
 pub record HashGoesByBlocks : Type 0 where
   pub start : (h : List Bool) → power_sum h [] ≡ replicate 128 false
   pub next : (h b : List Bool) (blocks : List (List Bool)) → length h ≡ 128 → length b ≡ 128

@@ -1,4 +1,4 @@
-//! AES-256 (FIPS 197) and GCM (SP 800-38D, with a nonce of 96 bits and a tag of 128) as definitions, in `specs/`.
+//! AES-256 (FIPS 197 of 2001) and GCM (SP 800-38D, with a nonce of 96 bits and a tag of 128) as definitions, in `specs/`.
 //!
 //! The crate has no code that a program runs. Each function here carries a law of the definitions on its contract.
 #![tactic(auto)]

@@ -13,4 +13,5 @@ returns c =
     c.new-h.result c.absorb-sum.result c.absorb-sum-2.result c.absorb_block-sum.result c.from_be_bytes-mask.result
     c.encrypt_block.ensures (ap (bits 128) c.new-h.ensures ∙ c.element_of.ensures)
     c.absorb-sum.ensures c.absorb-sum-2.ensures c.absorb_block-sum.ensures c.lengths_block.ensures
-    (c.encrypt_block-2.ensures ∙ ap (encrypt c.args.cipher.now) c.counter_block.ensures) mask_fits c.from_be_bytes-mask.ensures
+    (c.encrypt_block-2.ensures ∙ ap (encrypt c.args.cipher.now) c.counter_block.ensures)
+    mask_fits c.from_be_bytes-mask.ensures

@@ -9,7 +9,9 @@ returns c = record {
   lanes = λ j h.
       let p = lane_fits w8 c.args.x j c.fits-x.1 in
       let inverted = steps_invert (slice_index c.args.x j) _ _ _ _ _ _ _ p (c.linear-power_2.ensures.lanes j h)
-      (c.multiply-power_3.ensures.lanes j h) (c.linear-power_12.ensures.lanes j h) (c.multiply-power_15.ensures.lanes j h)
-      (c.linear-power_240.ensures.lanes j h) (c.multiply-power_252.ensures.lanes j h) (c.multiply-inverse.ensures.lanes j h) in
+      (c.multiply-power_3.ensures.lanes j h) (c.linear-power_12.ensures.lanes j h)
+      (c.multiply-power_15.ensures.lanes j h)
+      (c.linear-power_240.ensures.lanes j h) (c.multiply-power_252.ensures.lanes j h)
+      (c.multiply-inverse.ensures.lanes j h) in
       s_box_by (slice_index c.args.x j) _ _ _ inverted (c.linear.ensures.lanes j h) (c.plus.ensures.lanes j h);
 }

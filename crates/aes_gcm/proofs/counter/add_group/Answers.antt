@@ -10,9 +10,11 @@ loop-k-preserved c =
     let kept : length c.add_stream.new.text ≡ length c.loop-k.text = search rules in (
       kept ∙ inv.0,
       λ original e.
-          let whole : length original ≡ length c.args.text.now = sym (ap length e ∙ length-partly cipher nonce original first) in
+          let whole : length original ≡ length c.args.text.now = sym (ap length e
+          ∙ length-partly cipher nonce original first) in
           let longer : first + k + 1 ≡ first + (k + 1) = omega arith in
-          block_more cipher nonce original c.loop-k.text c.add_stream.new.text _ (first + k) (omega arith) (inv.1 original e)
+          block_more cipher nonce original c.loop-k.text c.add_stream.new.text _ (first + k) (omega arith)
+          (inv.1 original e)
           (c.key_streams-streams.ensures k (omega arith)) c.add_stream.ensures
           ∙ ap (partly_encrypted cipher nonce original) longer,
     )

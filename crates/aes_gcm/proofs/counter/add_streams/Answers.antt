@@ -9,7 +9,8 @@ pub loop-index-preserved : goal.loop-index-preserved
 loop-index-preserved c =
     let text = c.args.text.now in let i = c.loop-index.index in
     let inside : 16 * i < length text = omega (arith, div_ceil-16 (length text)) in
-    block_more c.args.cipher.now c.args.nonce.now text c.loop-index.text c.add_stream.new.text _ i inside c.loop-index.invariant
+    block_more c.args.cipher.now c.args.nonce.now text c.loop-index.text c.add_stream.new.text _ i inside
+    c.loop-index.invariant
     (c.encrypt_block-stream.ensures ∙ ap (encrypt c.args.cipher.now) c.counter_block.ensures) c.add_stream.ensures
 
 pub returns : goal.returns

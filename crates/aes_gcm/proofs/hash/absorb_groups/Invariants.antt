@@ -5,4 +5,5 @@ use Rattle.aes_gcm.specs.Hash.{Adds}
 use Rattle.aes_gcm.proofs.hash.absorb_groups.Given as goal
 
 abbrev pub invariant-loop-group : goal.invariant-loop-group
-invariant-loop-group l = Adds (bits 128 l.h) (bits 128 l.sum) (bits 128 l.total) (map polynomial_of (first_blocks (8 * l.group) l.bytes))
+invariant-loop-group l = Adds (bits 128 l.h) (bits 128 l.sum) (bits 128 l.total)
+    (map polynomial_of (first_blocks (8 * l.group) l.bytes))

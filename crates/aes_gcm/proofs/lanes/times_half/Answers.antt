@@ -20,11 +20,13 @@ loop-i-preserved c j h before e =
     let tested : (bit_and half (1 * 2 ^ i % 2 ^ 64) == 1 * 2 ^ i % 2 ^ 64) ≡ bit half i =
     ap (λ n. bit_and half n == n) (one_shl i 64 (omega arith)) ∙ bit_test half i in
     coefficient_more right before half i (element c.loop-i.product.high c.loop-i.product.low j) next _
-    (length-bits 128 (element c.args.right.high c.args.right.low j)) (c.loop-i.invariant j h before e) (c.times_x-next.ensures j h)
+    (length-bits 128 (element c.args.right.high c.args.right.low j)) (c.loop-i.invariant j h before e)
+    (c.times_x-next.ensures j h)
     (c.plus_where-product.ensures j h ∙ ap (λ b. add (bits 128 next) (scaled b right)) tested)
 
 pub returns : goal.returns
 returns c j h before e =
     let end : c.loop-i.i ≡ 64 = omega arith in
     c.loop-i.invariant j h before e
-    ∙ ap (λ k. field_product (bits k (slice_index c.args.half j) ++ before) (bits 128 (element c.args.right.high c.args.right.low j))) end
+    ∙ ap (λ k. field_product (bits k (slice_index c.args.half j) ++ before)
+    (bits 128 (element c.args.right.high c.args.right.low j))) end

@@ -9,4 +9,5 @@ returns c =
     let words_are = c.self.invariant ∙ ap (λ k. key_schedule k 60) c.self.view_is in
     c.stored.ensures
     ∙ columns_are (encrypt c.args.self.now) c.args.blocks.now c.cipher16.result c.told-blocks
-    (λ j h. c.cipher16.ensures j h ∙ ap (cipher c.self.inside.words) (c.loaded.ensures j h) ∙ ap (λ w. cipher w (get_or c.args.blocks.now j [])) words_are)
+    (λ j h. c.cipher16.ensures j h ∙ ap (cipher c.self.inside.words) (c.loaded.ensures j h)
+    ∙ ap (λ w. cipher w (get_or c.args.blocks.now j [])) words_are)

@@ -12,7 +12,8 @@ unfolding power
 returns c =
     let h = bits 128 c.args.self.now in
     let numbers : List ℕ =
-    c.times-power_8.result ∷ c.times-power_7.result ∷ c.times-power_6.result ∷ c.times-power_5.result ∷ c.times-power_4.result
+    c.times-power_8.result ∷ c.times-power_7.result ∷ c.times-power_6.result ∷ c.times-power_5.result
+    ∷ c.times-power_4.result
     ∷ c.times-power_3.result ∷ c.times-power_2.result ∷ c.self.inside.element ∷ [] in
     let e1 : bits 128 c.self.inside.element ≡ power h 1 =
     ap (bits 128) c.self.view_is ∙ sym (one_field_product h (length-bits 128 c.args.self.now)) in
