@@ -1,8 +1,9 @@
 -- Lists that are taken piece by piece.
-use Rattle.std.proofs.Common.{◌≡◌, ℕ, ◌+◌, ◌-◌, ◌≤◌, List, ◌++◌, length, take, drop, Option, Some, None, Result, Ok, Err, OnErr, refl, sym, ap, subst, ◌∙◌, append_assoc, arith, length-append}
+use Rattle.std.proofs.Common.{◌≡◌, ℕ, ◌+◌, ◌-◌, ◌≤◌, List, [], ◌++◌, length, take, drop, Option, Some, None, refl, sym, ap, subst, ◌∙◌, append_assoc, arith, length-append}
 use Rattle.std.proofs.lemmas.List.{take_at, take_rest, drop-drop, take-append-drop, length-take-le}
 use Rattle.std.proofs.Math.Seq.{take-add}
 use Rattle.std.specs.Io.KnownBytes.{append_known, prepend_known}
+use Rattle.vold_io.specs.Transfers.{LosesAtMost}
 
 -- the slice `&bytes[start..]`
 abbrev pub from_start : ℕ → List ℕ → List ℕ
@@ -49,7 +50,7 @@ append-piece old mid new written count bytes before after =
 pub length-with_piece : (before buf : List ℕ) (count limit : ℕ) → count ≤ length buf → length before + length buf ≤ limit → length (before ++ take count buf) ≤ limit
 length-with_piece before buf count limit fits room = omega (arith, length-append before (take count buf), length-take-le count buf fits)
 
--- what holds anyway holds where there is an error
-pub on_err_always : {T E : Type 0} (P : Type 0) (result : Result T E) → P → OnErr result P
-on_err_always P (Ok value) holds = tt
-on_err_always P (Err error) holds = holds
+-- where nothing was taken, no limit was passed
+pub LosesAtMost-same : (limit : ℕ) (rest : Option (List ℕ)) → LosesAtMost limit rest rest
+LosesAtMost-same limit None = ([], omega arith, refl)
+LosesAtMost-same limit (Some bytes) = ([], omega arith, refl)

@@ -58,6 +58,8 @@ impl Sink for MemSink {
 
     ghost never_fails = { λ sink. IsNone sink.fail_at };
 
+    ghost wants_no_memory = { λ _. ⊥ };
+
     /// Takes all of the bytes.
     fn write(&mut self, bytes: &[u8]) -> Result<usize, SinkFault>
         ensures bound { IfOk result (λ count. count ≤ length bytes.now) }

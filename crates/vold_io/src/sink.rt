@@ -33,6 +33,9 @@ pub trait Sink: Drop {
     // no call fails from here on, but for want of memory
     ghost never_fails: { Self → Type 0 };
 
+    // no call wants memory from here on
+    ghost wants_no_memory: { Self → Type 0 };
+
     /// Takes bytes from the front of `bytes`, at least one if there is one, and answers how many it took.
     ///
     /// # Errors
@@ -45,7 +48,8 @@ pub trait Sink: Drop {
         ensures took { IfOk result (λ count. taken self.new ≡ append_known (taken self.old) (take count bytes.now)) }
         ensures kept { OnErr result (taken self.new ≡ taken self.old) }
         ensures faults { CountsFaults (IsErrOf result SinkFault.Failed) (fault_count self.old) (fault_count self.new) }
-        ensures steady { never_fails self.old → never_fails self.new × ¬ (IsErrOf result SinkFault.Failed) };
+        ensures steady { never_fails self.old → never_fails self.new × ¬ (IsErrOf result SinkFault.Failed) }
+        ensures sparing { wants_no_memory self.old → wants_no_memory self.new × ¬ (IsErrOf result SinkFault.NoMemory) };
 
     /// How many calls failed. The count stays at `u64::MAX` once it is there.
     fn faults(&self) -> u64

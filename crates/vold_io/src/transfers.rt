@@ -52,7 +52,7 @@ pub fn read_at_most<S: Source>(
     ensures within { IfOk result (λ bytes. vec_len bytes ≤ limit) }
     ensures taken { IfOk result (λ bytes. S.rest source.old ≡ prepend_known bytes.items (S.rest source.new)) }
     ensures whole { IfOk result (λ bytes. vec_len bytes < limit → IsAtEnd (S.rest source.new)) }
-    ensures lost { OnErr result (LosesAtMost limit (S.rest source.old) (S.rest source.new)) }
+    ensures at_most { LosesAtMost limit (S.rest source.old) (S.rest source.new) }
     ensures faults { CountsFaults (IsErrOf result ReadFault.Failed) (S.fault_count source.old) (S.fault_count source.new) }
     ensures steady { S.never_fails source.old → S.never_fails source.new × ¬ (IsErrOf result ReadFault.Failed) }
 {
@@ -81,13 +81,14 @@ fn append(bytes: &mut Vec<u8>, more: &[u8]) -> Result<(), NoMemory>
 ///
 /// # Errors
 ///
-/// `Failed` where a write failed, and the sink's count of faults rose; `NoMemory` where memory ran out. The sink took a
-/// front of the bytes then.
+/// `Failed` where a write failed, and the sink's count of faults rose; `NoMemory` where memory ran out for the sink, since
+/// nothing else wants any. The sink took a front of the bytes then.
 pub fn write_all<K: Sink>(sink: &mut K, bytes: &[u8]) -> Result<(), SinkFault>
     ensures all { OnOk result (K.taken sink.new ≡ append_known (K.taken sink.old) bytes.now) }
     ensures front { OnErr result (AddsFront bytes.now (K.taken sink.old) (K.taken sink.new)) }
     ensures faults { CountsFaults (IsErrOf result SinkFault.Failed) (K.fault_count sink.old) (K.fault_count sink.new) }
     ensures steady { K.never_fails sink.old → K.never_fails sink.new × ¬ (IsErrOf result SinkFault.Failed) }
+    ensures sparing { K.wants_no_memory sink.old → K.wants_no_memory sink.new × ¬ (IsErrOf result SinkFault.NoMemory) }
 {
     let mut written = 0;
     while written < bytes.len() {

@@ -1,5 +1,5 @@
 ghost use Rattle.std.specs.Io.KnownBytes.{Keeps, WriteAppends};
-ghost use Rattle.std.specs.Prelude.{◌<◌, ◌≡◌, ◌≤◌, length, IfOk, IsErrOf, None, OnErr, OnOk};
+ghost use Rattle.std.specs.Prelude.{◌<◌, ◌≡◌, ◌≤◌, ⊤, length, IfOk, IsErrOf, None, OnErr, OnOk};
 ghost use Rattle.tree_model.specs.Counted.{one_more, Rose};
 ghost use Rattle.vold_io.specs.Counted.{CountsFaults};
 
@@ -68,6 +68,8 @@ impl<W: Write + Drop> Sink for WriteSink<W> {
     ghost fault_count = { λ sink. sink.faults };
 
     ghost never_fails = { λ _. ⊥ };
+
+    ghost wants_no_memory = { λ _. ⊤ };
 
     fn write(&mut self, bytes: &[u8]) -> Result<usize, SinkFault>
         ensures bound { IfOk result (λ count. count ≤ length bytes.now) }

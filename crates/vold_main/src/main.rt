@@ -3,36 +3,33 @@
 
 use script_text::Status;
 use std::env;
-use std::io::ErrorKind;
+use std::io::{ErrorKind, Write};
 use std::process::ExitCode;
 use tree_memory::MemTree;
 use tree_model::NoMemory;
 use vold_io::{ReadSource, WriteSink};
-use vold_run::run;
+use vold_run::{WordsFault, asked_words, exit_number, run};
 
 fn main(rt: HostRuntime) -> ExitCode {
-    let status = ended(&rt).unwrap_or(Status::NoMemory);
-    ExitCode::from(status.number())
+    let mut sink = WriteSink::new(rt.stdout());
+    let ended = ended(&rt, &mut sink);
+    ExitCode::from(exit_number(ended, sink.flush()))
 }
 
 /// Makes the run that the command line asks for.
-fn ended(rt: &HostRuntime) -> Result<Status, NoMemory> {
-    let words = words(rt)?;
+fn ended<W: Write + Drop>(rt: &HostRuntime, sink: &mut WriteSink<W>) -> Result<Status, NoMemory> {
+    let words = asked_words(rt.alloc(), words(rt))?;
     let mut source = ReadSource::new(rt.stdin());
-    let mut sink = WriteSink::new(rt.stdout());
     let tree = MemTree::new(rt.alloc())?;
-    let end = run(rt.alloc(), words.as_slice(), &mut source, &mut sink, tree);
-    match sink.flush() {
-        Ok(()) => Ok(end.status),
-        Err(_) => Ok(Status::WriteFault),
-    }
+    let end = run(rt.alloc(), words.as_slice(), &mut source, sink, tree);
+    Ok(end.status)
 }
 
-/// The words after the program's name. There are none where one isn't text, which no run accepts.
-fn words(rt: &HostRuntime) -> Result<Vec<String>, NoMemory> {
+/// The words after the program's name.
+fn words(rt: &HostRuntime) -> Result<Vec<String>, WordsFault> {
     match env::args(rt) {
         Ok(args) => Ok(args.skip(1).collect(rt.alloc())?),
-        Err(error) if error.kind() == ErrorKind::OutOfMemory => Err(NoMemory),
-        Err(_) => Ok(Vec::new(rt.alloc())),
+        Err(error) if error.kind() == ErrorKind::OutOfMemory => Err(WordsFault::NoMemory),
+        Err(_) => Err(WordsFault::NoText),
     }
 }

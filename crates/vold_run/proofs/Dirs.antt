@@ -1,5 +1,5 @@
 -- The directories that a loop over a tree's places reads are the tree's entries.
-use Rattle.std.proofs.Common.{◌≡◌, ℕ, ◌+◌, ◌<◌, ◌≤◌, List, [], ◌∷◌, ◌++◌, length, get_or, take, refl, sym, ap, subst, ◌∙◌, add-one}
+use Rattle.std.proofs.Common.{◌≡◌, ℕ, suc, ◌+◌, ◌<◌, ◌≤◌, List, [], ◌∷◌, ◌++◌, length, get_or, take, refl, sym, ap, subst, ◌∙◌, add-one, arith}
 use Rattle.std.specs.Prelude.{Option, Some, None, IsSome}
 use Rattle.std.specs.FinMap as map
 use Rattle.std.proofs.lemmas.List.{length-map, take_all}
@@ -8,6 +8,7 @@ use Rattle.tree_model.specs.declared.places.Place.{Place}
 use Rattle.tree_model.specs.Dir.{Files}
 use Rattle.tree_model.specs.Tree.{Tree}
 use Rattle.tree_model.specs.Order.{place_total}
+use Rattle.vold_run.specs.Shown.{looks_for}
 use Rattle.script_text.proofs.Pieces.{entry-at, key_found}
 
 there : {A : Type 0} (found : Option A) → (None ≡ found → ⊥) → IsSome found
@@ -20,6 +21,10 @@ many tree places listed = ap length listed ∙ length-map (map.entries tree) (λ
 -- each place is there
 pub place_there : (tree : Tree) (places : List Place) (i : ℕ) (place : Place) → places ≡ map.keys tree → i < length places → IsSome (map.get tree (get_or places i place))
 place_there tree places i place listed within = there _ (key_found place_total tree places i place listed within)
+
+-- the look at a directory is among those that the tree needs
+pub look_wanted : (tree : Tree) (places : List Place) (i : ℕ) → places ≡ map.keys tree → i < length places → suc i < looks_for tree
+look_wanted tree places i listed within = let all = many tree places listed in omega arith
 
 -- one more directory is read
 pub dir_read : (tree : Tree) (places : List Place) (i : ℕ) (place : Place) (files : Files) (dirs dirs' : List (Place × Files)) → places ≡ map.keys tree → i < length places → map.get tree (get_or places i place) ≡ Some files

@@ -1,8 +1,10 @@
+pub mod Came
 pub mod Counted
 pub mod Dirs
 pub mod Done
 pub mod Kept
 pub mod LineDone
+pub mod Looks
 pub mod Placed
 pub mod Queued
 pub mod Turned

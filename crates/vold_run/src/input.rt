@@ -1,6 +1,7 @@
-ghost use Rattle.std.specs.Prelude.{◌≡◌, ◌↔◌, IsTrue, IfOk, IfErr, IsErrOf, map, length, codes};
+ghost use Rattle.std.specs.Prelude.{◌≡◌, ◌↔◌, ◌+◌, IsTrue, IfOk, IfErr, IsErrOf, map, length, codes};
 ghost use Rattle.std.specs.String.{string_bytes};
-ghost use Rattle.vold_run.specs.Input.{IsAccepted, IsCause, ScriptCame, IsReading};
+ghost use Rattle.vold_io.specs.Transfers.{LosesAtMost};
+ghost use Rattle.vold_run.specs.Input.{most_bytes, IsAccepted, IsCause, ScriptCame, IsReading};
 
 use script_text::{Script, Status, read_script};
 use std::alloc::Global;
@@ -18,6 +19,7 @@ pub fn script_of<S: Source>(
     ensures script { IfOk result (λ lines. IsAccepted (map string_bytes words.now) × ScriptCame (S.rest source.old) (S.rest source.new) lines) }
     ensures cause { IfErr result (IsCause (map string_bytes words.now) (S.rest source.old) (S.rest source.new) (S.fault_count source.old) (S.fault_count source.new)) }
     ensures unread { IsErrOf result Status.Usage → source.new ≡ source.old }
+    ensures at_most { LosesAtMost (most_bytes + 1) (S.rest source.old) (S.rest source.new) }
     ensures steady { S.never_fails source.old → ¬ (IsErrOf result Status.ReadFault) }
 {
     if !is_accepted(words) {

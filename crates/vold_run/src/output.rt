@@ -3,7 +3,7 @@ ghost use Rattle.std.specs.FinMap as map;
 ghost use Rattle.tree_model.specs.Disk.{view};
 ghost use Rattle.vold_book.specs.Book.{IsWhole};
 ghost use Rattle.vold_book.specs.Stands.{IsLooked};
-ghost use Rattle.vold_run.specs.Shown.{FailsToRead, ShowsTree, Shows};
+ghost use Rattle.vold_run.specs.Shown.{FailsToRead, ReadsTree, ShowsTree, Shows};
 
 use script_text::{print_journal, print_tree};
 use std::alloc::Global;
@@ -50,7 +50,8 @@ fn tree_text<T: TreeDisk>(alloc: Global, book: &mut Book<T>) -> Result<Bytes, No
 /// Every directory of the view, in the order of the places.
 fn read_dirs<T: TreeDisk>(alloc: Global, book: &mut Book<T>) -> Result<Vec<(Place, Dir)>, DevFault>
     ensures read { IfOk result (λ dirs. dirs.items ≡ map.entries (view (T.disk book.old.tree))) }
-    ensures failed { IsErrOf result DevFault.Failed → FailsToRead T.counts book.old book.new }
+    ensures answered { OnOk result (ReadsTree T.disk T.counts book.old book.new) }
+    ensures failed { IsErrOf result DevFault.Failed → FailsToRead T.disk T.counts book.old book.new }
     ensures looked { IsLooked T.disk book.old book.new }
     ensures whole { IsWhole T.disk book.new }
 {

@@ -1,4 +1,4 @@
-ghost use Rattle.std.specs.Prelude.{◌≡◌, ◌≢◌, ◌≤◌, ◌⊎◌, [], IfOk, IfSome, IsNone, IsSome, IsSomeAnd, map, length};
+ghost use Rattle.std.specs.Prelude.{◌≡◌, ◌≢◌, ◌+◌, ◌≤◌, ◌⊎◌, [], IfOk, IfSome, IsNone, IsSome, IsSomeAnd, map, length};
 ghost use Rattle.std.specs.FinMap as finite;
 ghost use Rattle.std.specs.Io.KnownBytes.{append_known};
 ghost use Rattle.std.specs.String.{string_bytes};
@@ -7,8 +7,9 @@ ghost use Rattle.script_text.specs.Status.{message_of};
 ghost use Rattle.tree_model.specs.Counted.{Rose};
 ghost use Rattle.vold_book.specs.Book.{IsWhole};
 ghost use Rattle.vold_book.specs.Turns.{new_book};
+ghost use Rattle.vold_io.specs.Transfers.{LosesAtMost};
 ghost use Rattle.vold_run.specs.Lines.{IsFresh};
-ghost use Rattle.vold_run.specs.Input.{IsAccepted, IsRefused, RefusedCame, SomeScriptCame};
+ghost use Rattle.vold_run.specs.Input.{most_bytes, IsAccepted, IsRefused, RefusedCame, SomeScriptCame};
 ghost use Rattle.vold_run.specs.Ends.{HasMessage, InPlaceOf, IsDone, LinesEnd, RunPrints, Takes, WorkEnds, WritesFront};
 
 use crate::{input, lines, output};
@@ -20,7 +21,8 @@ use vold_io::{Sink, SinkFault, Source, write_all};
 
 /// Reads a script from the source, does its lines on a Book over the tree, and writes the Book's journal and tree to the
 /// sink. The words are those after the program's name; `run` alone is accepted. Where there is no script to do, the
-/// status's message is written and no Book is handed back.
+/// status's message is written and no Book is handed back. No more than one byte past the most that a script has is
+/// taken from the source.
 pub fn run<S: Source, K: Sink, T: TreeDisk>(
     alloc: Global,
     words: &[String],
@@ -32,6 +34,7 @@ pub fn run<S: Source, K: Sink, T: TreeDisk>(
     ensures usage { result.status ≡ Status.Usage → ¬ (IsAccepted (map string_bytes words.now)) }
     ensures other_words { ¬ (IsAccepted (map string_bytes words.now)) → InPlaceOf Status.Usage result.status }
     ensures unread { ¬ (IsAccepted (map string_bytes words.now)) → source.new ≡ source.old }
+    ensures at_most { LosesAtMost (most_bytes + 1) (S.rest source.old) (S.rest source.new) }
     ensures read_fault { result.status ≡ Status.ReadFault → Rose (S.fault_count source.old) (S.fault_count source.new) }
     ensures bad_script { result.status ≡ Status.BadScript → (S.fault_count source.new ≡ S.fault_count source.old) × RefusedCame (S.rest source.old) (S.rest source.new) }
     ensures refused { IsAccepted (map string_bytes words.now) → ¬ (Rose (S.fault_count source.old) (S.fault_count source.new)) → IfSome (S.rest source.old) (λ told. IsRefused told → InPlaceOf Status.BadScript result.status) }

@@ -8,4 +8,5 @@ loop-written-preserved g c = record {
   taken = append-piece _ _ _ _ _ _ c.loop-written.invariant.taken c.in_ok-written.ensures.took;
   same = search rules;
   steady = search rules;
+  sparing = search rules;
 }

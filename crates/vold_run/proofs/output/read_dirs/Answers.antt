@@ -1,9 +1,12 @@
-use Rattle.std.proofs.Common.{rules, ◌≡◌, get_or, sym, ap, ◌∙◌, subst}
-use Rattle.std.specs.Prelude.{IsSome}
+use Rattle.std.proofs.Common.{rules, ◌≡◌, suc, get_or, add-one, refl, sym, ap, ◌∙◌, subst}
+use Rattle.std.specs.Prelude.{IsSome, Ok, Err}
 use Rattle.std.specs.FinMap as map
+use Rattle.tree_model.specs.declared.device.DevFault.TheVariants.{Failed}
 use Rattle.tree_model.specs.declared.places.Place.TheVariants.{De}
 use Rattle.tree_model.specs.Disk.{view}
-use Rattle.vold_run.proofs.Dirs.{place_there, dir_read}
+use Rattle.vold_run.specs.Shown.{AreAnswered}
+use Rattle.vold_run.proofs.Dirs.{place_there, look_wanted, dir_read}
+use Rattle.vold_run.proofs.Looks.{answered_look, failed_look}
 use Rattle.vold_run.proofs.output.read_dirs.Goals as goal
 
 pub read_place-requires : goal.read_place-requires
@@ -24,6 +27,19 @@ loop-place-preserved g c =
           (ap (λ disk. map.get (view disk) (get_or places c.loop-place.place-index (De 0))) (sym c.loop-place.invariant.looked.same_disk) ∙ c.in_ok-dir.ensures.found)
           c.loop-place.invariant.read c.in_ok-push_dir.ensures;
       looked = search rules;
-      faults = search rules;
+      looks = subst (λ count. AreAnswered (suc count) (g.T.TreeDisk.counts c.args.book.now.tree) (g.T.TreeDisk.counts c.read_place.new.self.tree)) (sym (add-one c.loop-place.place-index))
+          (g.T.TreeDisk.counts c.loop-place.book.tree, c.loop-place.invariant.looks, answered_look _ _ c.in_ok-dir.dir (Ok c.in_ok-dir.dir) refl c.in_ok-dir.ensures.counted);
       whole = search rules;
+    }
+
+pub returns-in_err-dir-clause-failed : goal.returns-in_err-dir-clause-failed
+returns-in_err-dir-clause-failed g c = λ failed.
+    let listed : c.as_slice-place-items.result.now ≡ map.keys (view (g.T.TreeDisk.disk c.args.book.now.tree)) = c.as_slice-place-items.ensures.value ∙ c.in_ok-places.ensures.listed in
+    let is : c.read_place.result ≡ Err Failed = search rules in
+    record {
+      answered = suc c.loop-place.place-index;
+      wanted = look_wanted (view (g.T.TreeDisk.disk c.args.book.now.tree)) c.as_slice-place-items.result.now c.loop-place.place-index listed c.loop-place-test.true;
+      reached = g.T.TreeDisk.counts c.loop-place.book.tree;
+      looks = c.loop-place.invariant.looks;
+      failed = failed_look _ _ c.read_place.result is c.read_place.ensures.counted;
     }
