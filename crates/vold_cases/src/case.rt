@@ -1,0 +1,25 @@
+ghost use Rattle.std.specs.Prelude.{◌≤◌};
+
+/// A device of a run, for which a case may plan faults.
+#[derive(Clone, Copy, Debug, PartialEq, Eq)]
+pub enum Device {
+    /// The tree of key directories.
+    Tree,
+}
+
+/// A call of a device that fails: its number among that device's calls, from 1.
+#[derive(Clone, Copy, Debug, PartialEq, Eq)]
+pub struct Planned {
+    pub device: Device,
+    pub call: u32,
+    ghost counted: { 1 ≤ call },
+}
+
+/// A run: its name, the words after the program's name, the calls that fail, and the script's text.
+#[derive(Drop)]
+pub struct Case {
+    pub name: String,
+    pub words: Vec<String>,
+    pub faults: Vec<Planned>,
+    pub script: String,
+}

@@ -1,0 +1,74 @@
+ghost use Rattle.std.specs.Prelude.{◌≡◌, IfOk};
+ghost use Rattle.vold_cases.specs.Played.{report_of, IsPlannedTree, PrintsCase};
+
+use crate::case::{Case, Planned};
+use crate::reading::cases_in;
+use crate::refusal::{Refusal, refusal_line};
+use std::alloc::Global;
+use tree_memory::MemTree;
+use tree_model::{Bytes, NoMemory, TreeDisk};
+use vold_io::{MemSink, MemSource, Sink, SinkFault, write_all};
+use vold_run::run;
+
+/// Runs the cases of the bytes in order and writes what each prints; where the bytes are of no cases, the line that
+/// tells what is wrong. Answers whether they are.
+pub fn play<K: Sink>(alloc: Global, bytes: &[u8], sink: &mut K) -> Result<bool, SinkFault> {
+    match cases_in(alloc, bytes) {
+        Ok(cases) => play_all(alloc, cases.as_slice(), sink),
+        Err(Refusal::NoMemory) => Err(SinkFault::NoMemory),
+        Err(Refusal::Wrong(wrong, left)) => {
+            let line = refusal_line(alloc, bytes, wrong, left)?;
+            write_all(sink, line.as_bytes())?;
+            Ok(false)
+        }
+    }
+}
+
+fn play_all<K: Sink>(alloc: Global, cases: &[Case], sink: &mut K) -> Result<bool, SinkFault> {
+    for case in cases {
+        let text = played(alloc, case)?;
+        write_all(sink, text.as_slice())?;
+    }
+    Ok(true)
+}
+
+/// Runs the case, and answers what it prints.
+fn played(alloc: Global, case: &Case) -> Result<Bytes, NoMemory>
+    ensures { IfOk result (λ text. PrintsCase case.now text) }
+{
+    let tree = planned_tree(alloc, case.faults.as_slice())?;
+    let script = Bytes::copy(alloc, case.script.as_bytes())?;
+    let mut source = MemSource::new(script, None);
+    let mut sink = MemSink::new(alloc, None);
+    let end = run(alloc, case.words.as_slice(), &mut source, &mut sink, tree);
+    report(
+        alloc,
+        case.name.as_str(),
+        sink.as_slice(),
+        end.status.number(),
+    )
+}
+
+/// A tree in memory, before its first call, of which the planned calls fail.
+fn planned_tree(alloc: Global, faults: &[Planned]) -> Result<MemTree, NoMemory>
+    ensures { IfOk result (λ tree. IsPlannedTree faults.now tree) }
+{
+    let mut tree = MemTree::new(alloc)?;
+    for fault in faults {
+        tree.plan_fault(u64::from(fault.call))?;
+    }
+    Ok(tree)
+}
+
+/// What a case prints: its name, what its run wrote, and the number that the run ended with.
+fn report(alloc: Global, name: &str, written: &[u8], number: u8) -> Result<Bytes, NoMemory>
+    ensures { IfOk result (λ text. text ≡ report_of name.now written.now number) }
+{
+    let mut text = Vec::new(alloc);
+    let head = format!(in alloc; "case {name}\n")?;
+    let end = format!(in alloc; "status {number}\n")?;
+    text.extend_from_slice(head.as_bytes())?;
+    text.extend_from_slice(written)?;
+    text.extend_from_slice(end.as_bytes())?;
+    Ok(Bytes::from_vec(text))
+}
