@@ -9,6 +9,9 @@ use Rattle.std.specs.Cmp.{IsTotalOrder, eq_by_cmp_equiv}
 use Rattle.std.specs.FinMap as finite
 use Rattle.std.specs.FinMap.{find, is_sorted}
 use Rattle.std.specs.FinMap.Entries.{below_all}
+use Rattle.script_text.specs.declared.shown.Shown.{Shown}
+use Rattle.script_text.specs.Words.{spaced}
+use Rattle.script_text.specs.Shown.{shown_words, all_words}
 use Rattle.std.proofs.lemmas.Option.{none-some, same_Some}
 use Rattle.std.proofs.lemmas.List.{append_assoc, append-nil, drop_more, drop_all, get_or-map, length-map, drop-replicate, take_all, length-replicate}
 
@@ -18,6 +21,25 @@ piece_added f xs i d out out' all within before added =
     ap (λ o. o ++ flat_map f (drop (i + 1) xs)) added
     ∙ append_assoc out (f (get_or xs i d)) (flat_map f (drop (i + 1) xs))
     ∙ ap (λ rest. out ++ flat_map f rest) (sym (drop_more xs i d within))
+    ∙ before
+
+spaced-append : (words more : List (List ℕ)) → spaced (words ++ more) ≡ spaced words ++ spaced more
+spaced-append [] more = refl
+spaced-append (word ∷ words) more =
+    ap (λ rest. 32 ∷ (word ++ rest)) (spaced-append words more)
+    ∙ ap (λ rest. 32 ∷ rest) (sym (append_assoc word (spaced words) (spaced more)))
+
+-- the words of one more that is shown are added
+pub words_added : (shown : List Shown) (i : ℕ) (d : Shown) (out out' all : List ℕ) → i < length shown
+    → out ++ spaced (all_words (drop i shown)) ≡ all → out' ≡ out ++ spaced (shown_words (get_or shown i d))
+    → out' ++ spaced (all_words (drop (i + 1) shown)) ≡ all
+words_added shown i d out out' all within before added =
+    let words = shown_words (get_or shown i d) in
+    let rest = all_words (drop (i + 1) shown) in
+    ap (λ o. o ++ spaced rest) added
+    ∙ append_assoc out (spaced words) (spaced rest)
+    ∙ ap (λ text. out ++ text) (sym (spaced-append words rest))
+    ∙ ap (λ xs. out ++ spaced (all_words xs)) (sym (drop_more shown i d within))
     ∙ before
 
 -- every piece is added

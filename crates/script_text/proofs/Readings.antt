@@ -6,8 +6,9 @@ use Rattle.std.proofs.lemmas.List.{append_assoc, append-nil, length-append, nil_
 use Rattle.script_text.specs.declared.script.Line.{Line}
 use Rattle.script_text.specs.Script.{IsLine, AreInOrder, IsPlaced, IsNoScript, OneReading, may_follow, most_lines, spelling, text_of}
 use Rattle.script_text.specs.Reading.{Lacks, IsSplit, Reads, BeginsNoLine}
-use Rattle.script_text.proofs.Splits.{same_cut, uncut}
-use Rattle.script_text.proofs.Spelled.{Lacks-spelling, same_spelling}
+use Rattle.script_text.proofs.Splits.{same_cut, uncut, each_joined}
+use Rattle.script_text.proofs.Ink.{Lacks-spelling}
+use Rattle.script_text.proofs.Rows.{same_spelling}
 
 front_line : (line : Line) (lines : List Line) (rest : List ℕ) → text_of (line ∷ lines) ++ rest ≡ spelling line ++ 10 ∷ (text_of lines ++ rest)
 front_line line lines rest = append_assoc (spelling line ++ 10 ∷ []) (text_of lines) rest ∙ append_assoc (spelling line) (10 ∷ []) (text_of lines ++ rest)
@@ -37,10 +38,6 @@ order_joined before (line ∷ lines) more order next = (order.0, order_joined (S
 order_after : (before : Option Line) (lines more : List Line) → AreInOrder before (lines ++ more) → AreInOrder (last_of before lines) more
 order_after before [] more order = order
 order_after before (line ∷ lines) more order = order_after (Some line) lines more order.1
-
-each_joined : (lines more : List Line) → AllByRecursion IsLine lines → AllByRecursion IsLine more → AllByRecursion IsLine (lines ++ more)
-each_joined [] more each every = every
-each_joined (line ∷ lines) more each every = (each.0, each_joined lines more each.1 every)
 
 -- ---- what comes after lines that were read
 pub record Continues (lines others : List Line) (rest : List ℕ) : Type 0 where
@@ -110,7 +107,7 @@ refused-misplaced bytes rest others lines line placed read is begins_with mispla
 pub placed_on : (lines : List Line) (line : Line) → IsPlaced lines → IsLine line → may_follow (last_of None lines) line ≡ true → length lines ≢ most_lines → IsPlaced (lines ++ line ∷ [])
 placed_on lines line placed is follows few =
     let short : length lines ≤ most_lines = placed.0 in
-    (omega (arith, length-append lines (line ∷ [])), each_joined lines (line ∷ []) placed.1 (is, tt), order_joined None lines (line ∷ []) placed.2 (follows, tt))
+    (omega (arith, length-append lines (line ∷ [])), each_joined IsLine lines (line ∷ []) placed.1 (is, tt), order_joined None lines (line ∷ []) placed.2 (follows, tt))
 
 text_on : (lines : List Line) (line : Line) → text_of (lines ++ line ∷ []) ≡ text_of lines ++ (spelling line ++ 10 ∷ [])
 text_on [] line = append-nil (spelling line ++ 10 ∷ [])

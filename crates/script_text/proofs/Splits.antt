@@ -29,9 +29,11 @@ Lacks-from_reads : (byte : ℕ) (bytes : List ℕ) → ((k : ℕ) → k < length
 Lacks-from_reads byte [] reads = tt
 Lacks-from_reads byte (b ∷ bytes) reads = (reads 0 (omega arith), Lacks-from_reads byte bytes (λ k within. reads (suc k) (omega arith)))
 
-pub Lacks-append : (byte : ℕ) (a b : List ℕ) → Lacks byte a → Lacks byte b → Lacks byte (a ++ b)
-Lacks-append byte [] b la lb = lb
-Lacks-append byte (c ∷ a) b la lb = (la.0, Lacks-append byte a b la.1 lb)
+-- what holds of each element of two lists holds of each of both
+pub each_joined : {X : Type 0} (P : X → Type 0) (xs ys : List X) → AllByRecursion P xs → AllByRecursion P ys
+    → AllByRecursion P (xs ++ ys)
+each_joined P [] ys each every = every
+each_joined P (x ∷ xs) ys each every = (each.0, each_joined P xs ys each.1 every)
 
 -- what a search for a byte finds
 pub cut_at : (byte : ℕ) (bytes : List ℕ) (i : ℕ) → i < length bytes → get_or bytes i 0 ≡ byte → ((k : ℕ) → k < i → get_or bytes k 0 ≢ byte) → IsSplit byte bytes (take i bytes) (take (length bytes - (i + 1)) (drop (i + 1) bytes))
@@ -87,7 +89,3 @@ joined-words_in (b ∷ bytes) = by_test (nat_eq b 32) refl (joined-words_in byte
     by_test : (t : Bool) → nat_eq b 32 ≡ t → joined (words_in bytes) ≡ bytes → joined (if t then [] ∷ words_in bytes else in_front b (words_in bytes)) ≡ b ∷ bytes
     by_test true is rest = words_in-some bytes ∙ ap (λ back. 32 ∷ back) rest ∙ ap (λ c. c ∷ bytes) (sym (eqb-true b 32 is))
     by_test false is rest = joined-in_front b (words_in bytes) ∙ ap (λ back. b ∷ back) rest
-
--- a text of one word is that word
-pub only_word : (text word : List ℕ) → words_in text ≡ word ∷ [] → text ≡ word
-only_word text word e = sym (joined-words_in text) ∙ ap joined e ∙ append-nil word

@@ -1,28 +1,20 @@
 -- The journal as text: a line that counts the entries, and one line for each.
 use Rattle.std.specs.Prelude.{ℕ, List, [], ◌∷◌, ◌++◌, length, codes}
 use Rattle.std.specs.List.{flat_map}
-use Rattle.journal_model.specs.declared.commands.Actor.{Actor}
-use Rattle.journal_model.specs.declared.commands.Actor.TheVariants.{Boot, Cp, User}
 use Rattle.journal_model.specs.declared.commands.Command.{Command}
-use Rattle.journal_model.specs.declared.commands.Command.TheVariants.{Create, Recover}
 use Rattle.journal_model.specs.declared.commands.Reply.{Reply}
 use Rattle.journal_model.specs.declared.commands.Reply.TheVariants.{Done, Ended, UserExists, Ready, TreeFault}
 use Rattle.journal_model.specs.declared.entries.Change.{Change}
 use Rattle.journal_model.specs.declared.entries.Change.TheVariants.{Create as Created}
 use Rattle.journal_model.specs.declared.entries.Entry.{Entry}
 use Rattle.journal_model.specs.declared.entries.Entry.TheVariants.{Began, Changed, Synced, Stopped, Restarted, Replied}
-use Rattle.script_text.specs.Words.{decimal, line_of}
+use Rattle.script_text.specs.declared.script.Line.TheVariants.{Do}
+use Rattle.script_text.specs.Words.{decimal, actor_word, line_of}
+use Rattle.script_text.specs.Script.{line_words}
 
--- an actor is its user's number, `cp` or `boot`
-abbrev pub actor_word : Actor → List ℕ
-actor_word Boot = codes "boot"
-actor_word Cp = codes "cp"
-actor_word (User user) = decimal user
-
--- a command: its name, and what it is for
+-- a command, as the line of a script that gives it
 abbrev pub command_words : Command → List (List ℕ)
-command_words (Create user) = codes "create" ∷ decimal user ∷ []
-command_words Recover = codes "recover" ∷ []
+command_words command = line_words (Do command)
 
 -- a change: its name, the user, and when that user was created
 abbrev pub change_words : Change → List (List ℕ)

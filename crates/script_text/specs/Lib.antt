@@ -1,6 +1,9 @@
+pub mod Arguments
+pub mod Forms
 pub mod Journal
 pub mod Reading
 pub mod Script
+pub mod Shown
 pub mod Status
 pub mod Tree
 pub mod Words

@@ -1,9 +1,11 @@
 -- How a text falls into lines and words, and what is read from it.
-use Rattle.std.specs.Prelude.{◌≡◌, ◌≢◌, ℕ, ◌<◌, ◌^◌, if◌then◌else◌, nat_eq, List, [], ◌∷◌, ◌++◌, length, slice_index, Option, Some, None}
+use Rattle.std.specs.Prelude.{◌≡◌, ◌≢◌, ℕ, if◌then◌else◌, nat_eq, List, [], ◌∷◌, ◌++◌, length, slice_index, Option, Some, None}
 use Rattle.std.specs.List.{AllByRecursion}
+use Rattle.script_text.specs.declared.arguments.Kind.{Kind}
+use Rattle.script_text.specs.declared.arguments.Argument.{Argument}
 use Rattle.script_text.specs.declared.script.Line.{Line}
+use Rattle.script_text.specs.Arguments.{value_words, Fits}
 use Rattle.script_text.specs.Script.{IsLine, spelling}
-use Rattle.script_text.specs.Words.{decimal}
 
 -- what was read: a value that may come and whose text this is, or None where this is the text of no such value
 abbrev pub Reads : {A T : Type 0} → (A → Type 0) → (A → T) → T → Option A → Type 0
@@ -34,17 +36,18 @@ abbrev pub words_after : Option (List ℕ) → List (List ℕ)
 words_after None = []
 words_after (Some text) = words_in text
 
--- a number as the last word
-abbrev pub number_words : ℕ → List (List ℕ)
-number_words number = decimal number ∷ []
-
 -- a number's text begins with no sign, and with a zero only where that is the whole text
 abbrev pub IsPlain : List ℕ → Type 0
 IsPlain word = (slice_index word 0 ≢ 43) × (slice_index word 0 ≡ 48 → length word ≡ 1)
 
--- a number of 32 bits
-abbrev pub IsSmall : ℕ → Type 0
-IsSmall number = number < 2 ^ 32
+-- the words begin with the words of no such value
+abbrev pub BeginsNoValue : Kind → List (List ℕ) → Type 0
+BeginsNoValue kind words = (value : Argument) → (more : List (List ℕ)) → Fits kind value
+    → words ≢ value_words kind value ++ more
+
+-- a value that a line may have begins the words, and these are behind it
+abbrev pub BeginsWith : Kind → List (List ℕ) → Argument → List (List ℕ) → Type 0
+BeginsWith kind words value behind = Fits kind value × (words ≡ value_words kind value ++ behind)
 
 -- the text begins with no line and its line feed
 abbrev pub BeginsNoLine : List ℕ → Type 0

@@ -1,6 +1,10 @@
--- How numbers and bytes are spelled, and how words make a line.
-use Rattle.std.specs.Prelude.{ℕ, ◌-◌, List, [], ◌∷◌, ◌++◌, length, replicate, codes}
+-- How numbers, bytes, actors and fills are spelled, and how words make a line.
+use Rattle.std.specs.Prelude.{ℕ, ◌-◌, List, [], ◌∷◌, ◌++◌, length, map, replicate, codes}
 use Rattle.hex.specs.Hex.{encode_lower}
+use Rattle.tree_model.specs.declared.ops.Fill.{Fill}
+use Rattle.tree_model.specs.declared.ops.Fill.TheVariants.{Same, Bytes}
+use Rattle.journal_model.specs.declared.commands.Actor.{Actor}
+use Rattle.journal_model.specs.declared.commands.Actor.TheVariants.{Boot, Cp, User}
 -- a number in decimal, without a leading zero
 pub use Rattle.std.specs.Fmt.{decimal}
 
@@ -12,6 +16,21 @@ ten_digits n = replicate (10 - length (decimal n)) 48 ++ decimal n
 abbrev pub bytes_word : List ℕ → List ℕ
 bytes_word [] = codes "-"
 bytes_word (byte ∷ bytes) = encode_lower (byte ∷ bytes)
+
+-- an actor is its user's number, `cp` or `boot`
+abbrev pub actor_word : Actor → List ℕ
+actor_word Boot = codes "boot"
+actor_word Cp = codes "cp"
+actor_word (User user) = decimal user
+
+-- a fill: an equals sign for a write's own bytes, else the bytes
+abbrev pub fill_word : Fill → List ℕ
+fill_word Same = codes "="
+fill_word (Bytes bytes) = bytes_word bytes
+
+-- the words of fills, in order
+abbrev pub fill_words : List Fill → List (List ℕ)
+fill_words fills = map fill_word fills
 
 -- words, each with a space before it
 abbrev pub spaced : List (List ℕ) → List ℕ

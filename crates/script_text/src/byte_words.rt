@@ -1,6 +1,6 @@
 ghost use Rattle.std.specs.Prelude.{IfOk};
 ghost use Rattle.script_text.specs.Words.{bytes_word};
-ghost use Rattle.script_text.specs.Script.{AreBytes, AreShort};
+ghost use Rattle.script_text.specs.Arguments.{AreBytes, AreShort};
 ghost use Rattle.script_text.specs.Reading.{Reads};
 
 use crate::script::Script;

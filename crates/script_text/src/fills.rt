@@ -1,5 +1,6 @@
 ghost use Rattle.std.specs.Prelude.{◌≡◌, ◌≤◌, length, IfOk, option_copied};
-ghost use Rattle.script_text.specs.Script.{AreFills, IsFill, fill_word, fill_words};
+ghost use Rattle.script_text.specs.Words.{fill_word, fill_words};
+ghost use Rattle.script_text.specs.Arguments.{AreFills, IsFill};
 ghost use Rattle.script_text.specs.Reading.{Reads, words_after};
 
 use crate::byte_words::short_bytes_of;

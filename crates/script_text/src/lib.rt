@@ -3,13 +3,16 @@
 #![tactic(auto)]
 
 mod appending;
+pub mod arguments;
 pub mod byte_words;
 mod fills;
+pub mod forms;
 pub mod journal_lines;
 pub mod numbers;
 mod reading;
 pub mod script;
 pub mod script_lines;
+mod shown;
 pub mod status;
 pub mod tree_lines;
 

@@ -1,15 +1,19 @@
-ghost use Rattle.std.specs.Prelude.{◌≡◌, ◌∷◌, ◌++◌, MatchOption, IfOk, option_copied, codes};
-ghost use Rattle.script_text.specs.Script.{IsLine, IsTurner, line_words, spelling};
-ghost use Rattle.script_text.specs.Journal.{actor_word};
-ghost use Rattle.script_text.specs.Reading.{Reads, Lacks, IsSplit, IsSmall, words_in, words_after, number_words, BeginsNoLine};
+//! Reads a line: its word, its form in the table of the words, and its arguments by their kinds.
+ghost use Rattle.std.specs.Prelude.{◌≡◌, [], ◌∷◌, ◌++◌, MatchOption, IfOk, option_copied};
+ghost use Rattle.script_text.specs.Words.{decimal, actor_word};
+ghost use Rattle.script_text.specs.Arguments.{argument_words, value_words, last_words, AllFit, Fits, LastFit, IsTurner, IsWithin};
+ghost use Rattle.script_text.specs.Script.{IsLine, line_words, spelling};
+ghost use Rattle.script_text.specs.Reading.{Reads, Lacks, IsSplit, words_in, words_after, BeginsNoLine, BeginsNoValue, BeginsWith};
 
+use crate::arguments::{Argument, Arguments, Kind, Kinds};
 use crate::byte_words::short_bytes_of;
 use crate::fills::fills_of;
+use crate::forms::Keyword;
 use crate::numbers::number_of;
-use crate::script::{Line, Script};
-use journal_model::{Actor, Command};
+use crate::script::Line;
+use journal_model::Actor;
 use std::alloc::Global;
-use tree_model::{Cut, NoMemory};
+use tree_model::{Fills, NoMemory};
 
 /// The line that the bytes begin with, and what follows its line feed; None where they begin with none.
 pub fn next_line(alloc: Global, bytes: &[u8]) -> Result<Option<(Line, &[u8])>, NoMemory>
@@ -30,59 +34,88 @@ fn line_of(alloc: Global, text: &[u8]) -> Result<Option<Line>, NoMemory>
     ensures { IfOk result (Reads IsLine line_words (words_in text.now)) }
 {
     let (word, words) = first_word(text);
-    if word == b"seed".as_slice() {
-        return seed_of(alloc, words);
-    }
-    if word == b"create".as_slice() {
-        return Ok(create_of(words));
-    }
-    if word == b"turn".as_slice() {
-        return Ok(turns_of(words));
-    }
-    if word == b"all".as_slice() {
-        return Ok(all_of(words));
-    }
-    if word == b"stop".as_slice() {
-        return stop_of(alloc, words);
-    }
-    if word == b"restart".as_slice() {
-        return Ok(restart_of(words));
-    }
-    Ok(None)
-}
-
-/// A seed line, by the words after the first.
-fn seed_of(alloc: Global, words: Option<&[u8]>) -> Result<Option<Line>, NoMemory>
-    ensures { IfOk result (Reads IsLine line_words (codes "seed" ∷ words_after (option_copied words.entry))) }
-{
-    let Some(word) = words else {
+    let Some(keyword) = Keyword::named(word) else {
         return Ok(None);
     };
-    let Some(bytes) = short_bytes_of(alloc, word)? else {
+    let Some(given) = arguments_of(alloc, keyword.kinds(), words)? else {
         return Ok(None);
     };
-    Ok(Some(Line::Seed(bytes)))
+    Ok(Some(keyword.line(alloc, given)))
 }
 
-/// A line that gives a create, by the words after the first.
-fn create_of(words: Option<&[u8]>) -> Option<Line>
-    ensures { Reads IsLine line_words (codes "create" ∷ words_after (option_copied words.entry)) result }
+/// The arguments of these kinds that the words are of.
+fn arguments_of(
+    alloc: Global,
+    kinds: Kinds,
+    words: Option<&[u8]>,
+) -> Result<Option<Arguments>, NoMemory>
+    ensures { IfOk result (Reads (AllFit kinds) (argument_words kinds) (words_after (option_copied words.entry))) }
 {
-    let user = last_number(words)?;
-    Some(Line::Do(Command::Create { user }))
+    let Some((first, words)) = first_value(alloc, kinds.first, words)? else {
+        return Ok(None);
+    };
+    let Some((second, words)) = first_value(alloc, kinds.second, words)? else {
+        return Ok(None);
+    };
+    let Some((third, words)) = first_value(alloc, kinds.third, words)? else {
+        return Ok(None);
+    };
+    let Some(fills) = last_fills(alloc, kinds.fills, words)? else {
+        return Ok(None);
+    };
+    Ok(Some(Arguments {
+        first,
+        second,
+        third,
+        fills,
+    }))
 }
 
-/// A line of turns, by the words after the first.
-fn turns_of(words: Option<&[u8]>) -> Option<Line>
-    ensures { Reads IsLine line_words (codes "turn" ∷ words_after (option_copied words.entry)) result }
+/// The value of this kind that the words begin with, and the words behind it.
+fn first_value(
+    alloc: Global,
+    kind: Kind,
+    words: Option<&[u8]>,
+) -> Result<Option<(Argument, Option<&[u8]>)>, NoMemory>
+    ensures { IfOk result (λ read. MatchOption read (BeginsNoValue kind (words_after (option_copied words.entry)))
+        (λ found. BeginsWith kind (words_after (option_copied words.entry)) found.0 (words_after (option_copied found.1)))) }
 {
-    let (word, others) = first_word(words?);
-    let actor = actor_named(word)?;
-    let count = last_number(others)?;
-    if count < 1 || Script::MOST_TURNS < count {
+    if kind == Kind::Nothing {
+        return Ok(Some((Argument::Nothing, words)));
+    }
+    let Some(text) = words else {
+        return Ok(None);
+    };
+    let (word, others) = first_word(text);
+    let Some(value) = value_of(alloc, kind, word)? else {
+        return Ok(None);
+    };
+    Ok(Some((value, others)))
+}
+
+/// The value of this kind that the word is of.
+fn value_of(alloc: Global, kind: Kind, word: &[u8]) -> Result<Option<Argument>, NoMemory>
+    ensures { IfOk result (Reads (Fits kind) (value_words kind) (word.now ∷ [])) }
+{
+    match kind {
+        Kind::Nothing | Kind::Never => Ok(None),
+        Kind::Number { least, most } => {
+            Ok(number_within(least, most, word).map(Argument::Number))
+        }
+        Kind::Bytes => Ok(short_bytes_of(alloc, word)?.map(Argument::Bytes)),
+        Kind::Actor => Ok(actor_named(word).map(Argument::Actor)),
+    }
+}
+
+/// The number from the least to the most that the word is of.
+fn number_within(least: u32, most: u32, word: &[u8]) -> Option<u32>
+    ensures { Reads (IsWithin least most) decimal word.now result }
+{
+    let number = number_of(word)?;
+    if number < least || most < number {
         return None;
     }
-    Some(Line::Turns(actor, count))
+    Some(number)
 }
 
 /// The actor of this name, where a script may let it make turns.
@@ -96,53 +129,17 @@ fn actor_named(word: &[u8]) -> Option<Actor>
     Some(Actor::User(user))
 }
 
-/// A line for all actors, by the words after the first.
-fn all_of(words: Option<&[u8]>) -> Option<Line>
-    ensures { Reads IsLine line_words (codes "all" ∷ words_after (option_copied words.entry)) result }
+/// The fills that the words are of, where a line may have any; else none, where there are no words.
+fn last_fills(alloc: Global, wanted: bool, words: Option<&[u8]>) -> Result<Option<Fills>, NoMemory>
+    ensures { IfOk result (Reads (LastFit wanted) (last_words wanted) (words_after (option_copied words.entry))) }
 {
+    if wanted {
+        return fills_of(alloc, words);
+    }
     match words {
-        None => Some(Line::All),
-        Some(_) => None,
+        None => Ok(Some(Fills::new(Vec::new(alloc)))),
+        Some(_) => Ok(None),
     }
-}
-
-/// A line that stops, by the words after the first.
-fn stop_of(alloc: Global, words: Option<&[u8]>) -> Result<Option<Line>, NoMemory>
-    ensures { IfOk result (Reads IsLine line_words (codes "stop" ∷ words_after (option_copied words.entry))) }
-{
-    let Some(text) = words else {
-        return Ok(None);
-    };
-    let (word, others) = first_word(text);
-    let Some(keep) = number_of(word) else {
-        return Ok(None);
-    };
-    let Some(fills) = fills_of(alloc, others)? else {
-        return Ok(None);
-    };
-    Ok(Some(Line::Stop(Cut {
-        keep: u64::from(keep),
-        fills,
-    })))
-}
-
-/// A line that restarts, by the words after the first.
-fn restart_of(words: Option<&[u8]>) -> Option<Line>
-    ensures { Reads IsLine line_words (codes "restart" ∷ words_after (option_copied words.entry)) result }
-{
-    let level = last_number(words)?;
-    if level != 1 {
-        return None;
-    }
-    Some(Line::Restart(level))
-}
-
-/// The number that is the only word.
-fn last_number(words: Option<&[u8]>) -> Option<u32>
-    ensures { Reads IsSmall number_words (words_after (option_copied words.entry)) result }
-{
-    let number = number_of(words?)?;
-    Some(number)
 }
 
 /// The first word, and what follows the space behind it, where there is one.

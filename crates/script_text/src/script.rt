@@ -1,5 +1,6 @@
 ghost use Rattle.std.specs.Prelude.{◌≡◌, ◌↔◌, IsTrue, IfOk, IfSome, IfNone, option_copied};
-ghost use Rattle.script_text.specs.Script.{may_follow as allows, seed_of, AreShort, IsPlaced, IsScript, IsNoScript, OneReading};
+ghost use Rattle.script_text.specs.Script.{may_follow as allows, seed_of, IsPlaced, IsScript, IsNoScript, OneReading};
+ghost use Rattle.script_text.specs.Arguments.{AreShort};
 
 use crate::reading::next_line;
 use journal_model::{Actor, Command};

@@ -1,12 +1,16 @@
-ghost use Rattle.std.specs.Prelude.{◌≡◌, [], ◌∷◌, ◌++◌, OnOk, IfOk};
-ghost use Rattle.script_text.specs.Words.{spaced};
-ghost use Rattle.script_text.specs.Script.{fill_words, line_words, spelling, text_of};
+//! Prints a script: each line's word, and what is shown behind it.
+ghost use Rattle.std.specs.Prelude.{◌≡◌, ◌++◌, OnOk, IfOk};
+ghost use Rattle.script_text.specs.Words.{joined};
+ghost use Rattle.script_text.specs.Script.{spelling, text_of};
+ghost use Rattle.script_text.specs.Journal.{command_words};
 
-use crate::appending::{push_bytes, push_line_feed, push_number, push_text, push_word};
-use crate::journal_lines::{push_actor, push_command};
+use crate::appending::push_line_feed;
+use crate::forms::Keyword;
 use crate::script::{Line, Script};
+use crate::shown::{Shown, push_line};
+use journal_model::Command;
 use std::alloc::Global;
-use tree_model::{Bytes, Fill, NoMemory};
+use tree_model::{Bytes, NoMemory};
 
 /// The text of a script: its lines, each ended by a line feed.
 pub fn print_script(alloc: Global, script: &Script) -> Result<Bytes, NoMemory>
@@ -14,47 +18,56 @@ pub fn print_script(alloc: Global, script: &Script) -> Result<Bytes, NoMemory>
 {
     let mut out = Vec::new(alloc);
     for line in script.lines() {
-        push_line(alloc, &mut out, line)?;
+        push_script_line(alloc, &mut out, line)?;
         push_line_feed(&mut out)?;
     }
     Ok(Bytes::from_vec(out))
 }
 
-fn push_line(alloc: Global, out: &mut Vec<u8>, line: &Line) -> Result<(), NoMemory>
+fn push_script_line(alloc: Global, out: &mut Vec<u8>, line: &Line) -> Result<(), NoMemory>
     ensures { OnOk result (out.new.items ≡ out.old.items ++ spelling line.now) }
 {
     match line {
         Line::Seed(bytes) => {
-            push_text(out, b"seed")?;
-            push_bytes(alloc, out, bytes.as_slice())
+            let seed = Shown::Bytes(bytes.as_slice());
+            push_line(alloc, out, Keyword::Seed.text(), &[seed])
         }
         Line::Do(command) => push_command(alloc, out, command),
         Line::Turns(actor, count) => {
-            push_text(out, b"turn")?;
-            push_actor(alloc, out, *actor)?;
-            push_number(alloc, out, u64::from(*count))
+            let count = Shown::Number(u64::from(*count));
+            push_line(
+                alloc,
+                out,
+                Keyword::Turn.text(),
+                &[Shown::Actor(*actor), count],
+            )
         }
-        Line::All => push_text(out, b"all"),
+        Line::All => push_line(alloc, out, Keyword::All.text(), &[]),
         Line::Stop(cut) => {
-            push_text(out, b"stop")?;
-            push_number(alloc, out, cut.keep)?;
-            push_fills(alloc, out, cut.fills.as_slice())
+            let fills = Shown::Fills(cut.fills.as_slice());
+            push_line(
+                alloc,
+                out,
+                Keyword::Stop.text(),
+                &[Shown::Number(cut.keep), fills],
+            )
         }
         Line::Restart(level) => {
-            push_text(out, b"restart")?;
-            push_number(alloc, out, u64::from(*level))
+            let level = Shown::Number(u64::from(*level));
+            push_line(alloc, out, Keyword::Restart.text(), &[level])
         }
     }
 }
 
-fn push_fills(alloc: Global, out: &mut Vec<u8>, fills: &[Fill]) -> Result<(), NoMemory>
-    ensures { OnOk result (out.new.items ≡ out.old.items ++ spaced (fill_words fills.now)) }
+/// Adds a command, as the line of a script that gives it.
+pub fn push_command(alloc: Global, out: &mut Vec<u8>, command: &Command) -> Result<(), NoMemory>
+    ensures { OnOk result (out.new.items ≡ out.old.items ++ joined (command_words command.now)) }
 {
-    for fill in fills {
-        match fill {
-            Fill::Same => push_word(out, b"=")?,
-            Fill::Bytes(bytes) => push_bytes(alloc, out, bytes.as_slice())?,
+    match command {
+        Command::Create { user } => {
+            let user = Shown::Number(u64::from(*user));
+            push_line(alloc, out, Keyword::Create.text(), &[user])
         }
+        Command::Recover => push_line(alloc, out, Keyword::Recover.text(), &[]),
     }
-    Ok(())
 }

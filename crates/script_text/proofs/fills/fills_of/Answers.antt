@@ -1,8 +1,8 @@
 use Rattle.std.proofs.Common.{rules, ◌≡◌, ◌++◌, length, vec_len, sym, ap, ◌∙◌}
 use Rattle.std.specs.Option.{option_copied}
-use Rattle.script_text.specs.Script.{fill_words}
+use Rattle.script_text.specs.Words.{fill_words}
 use Rattle.script_text.specs.Reading.{words_after}
-use Rattle.script_text.proofs.ByWord.{too_many, strange_word}
+use Rattle.script_text.proofs.Values.{too_many, strange_word}
 use Rattle.script_text.proofs.fills.fills_of.Goals as goal
 
 pub returns-then-len-eq-MOST_FILLS : goal.returns-then-len-eq-MOST_FILLS

@@ -1,7 +1,8 @@
 -- The words are those of the fills so far, then the rest.
 use Rattle.std.proofs.Common.{◌≡◌, ◌++◌, length}
 use Rattle.std.specs.Prelude.{option_copied}
-use Rattle.script_text.specs.Script.{AreFills, fill_words}
+use Rattle.script_text.specs.Words.{fill_words}
+use Rattle.script_text.specs.Arguments.{AreFills}
 use Rattle.script_text.specs.Reading.{words_after}
 use Rattle.script_text.proofs.fills.fills_of.Given as goal
 

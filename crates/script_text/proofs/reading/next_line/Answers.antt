@@ -1,5 +1,5 @@
 use Rattle.std.proofs.Common.{◌∷◌, ◌++◌, ap, ◌∙◌}
-use Rattle.script_text.proofs.Spelled.{read_by_words}
+use Rattle.script_text.proofs.Ink.{read_by_words}
 use Rattle.script_text.proofs.Readings.{strange-unended, strange-text}
 use Rattle.script_text.proofs.reading.next_line.Goals as goal
 

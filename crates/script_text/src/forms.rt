@@ -1,0 +1,128 @@
+//! The forms of a script's lines: the word that each begins with, the kinds of its arguments, and the line that they
+//! make.
+ghost use Rattle.std.specs.Prelude.{◌≡◌, ◌≢◌, ◌∷◌, MatchOption};
+ghost use Rattle.script_text.specs.declared.forms.Keyword.{Keyword as Word};
+ghost use Rattle.script_text.specs.Arguments.{argument_words, AllFit};
+ghost use Rattle.script_text.specs.Forms.{word_of, kinds_of};
+ghost use Rattle.script_text.specs.Script.{IsLine, line_words};
+
+use crate::arguments::{Arguments, Kind, Kinds};
+use crate::script::{Line, Script};
+use journal_model::Command;
+use std::alloc::Global;
+use tree_model::Cut;
+
+/// The word that a line begins with.
+#[derive(Clone, Copy, Debug, PartialEq, Eq)]
+pub enum Keyword {
+    Seed,
+    Create,
+    Recover,
+    Turn,
+    All,
+    Stop,
+    Restart,
+}
+
+/// Any number of 32 bits.
+const ANY_NUMBER: Kind = Kind::Number {
+    least: 0,
+    most: u32::MAX,
+};
+
+/// From one turn to the most that a line gives.
+const COUNT: Kind = Kind::Number {
+    least: 1,
+    most: Script::MOST_TURNS,
+};
+
+/// The level that a script starts a machine with.
+const LEVEL: Kind = Kind::Number { least: 1, most: 1 };
+
+impl Keyword {
+    /// All of them.
+    const EVERY: [Keyword; 7] = [
+        Keyword::Seed,
+        Keyword::Create,
+        Keyword::Recover,
+        Keyword::Turn,
+        Keyword::All,
+        Keyword::Stop,
+        Keyword::Restart,
+    ];
+
+    /// The table of the words: each with its text and the kinds of what follows it.
+    fn form(self) -> (&'static [u8], Kinds)
+        ensures word { result.0.now ≡ word_of self }
+        ensures kinds { result.1 ≡ kinds_of self }
+    {
+        match self {
+            Keyword::Seed => (b"seed", Kinds::one(Kind::Bytes)),
+            Keyword::Create => (b"create", Kinds::one(ANY_NUMBER)),
+            Keyword::Recover => (b"recover", Kinds::one(Kind::Never)),
+            Keyword::Turn => (b"turn", Kinds::two(Kind::Actor, COUNT)),
+            Keyword::All => (b"all", Kinds::none()),
+            Keyword::Stop => (
+                b"stop",
+                Kinds {
+                    fills: true,
+                    ..Kinds::one(ANY_NUMBER)
+                },
+            ),
+            Keyword::Restart => (b"restart", Kinds::one(LEVEL)),
+        }
+    }
+
+    /// The text of the word.
+    pub fn text(self) -> &'static [u8]
+        ensures { result.now ≡ word_of self }
+    {
+        self.form().0
+    }
+
+    /// The kinds of what follows the word.
+    pub fn kinds(self) -> Kinds
+        ensures { result ≡ kinds_of self }
+    {
+        self.form().1
+    }
+
+    /// The word that has this text.
+    pub fn named(text: &[u8]) -> Option<Keyword>
+        ensures { MatchOption result ((keyword : Word) → text.now ≢ word_of keyword) (λ keyword. text.now ≡ word_of keyword) }
+    {
+        for keyword in Keyword::EVERY {
+            if keyword.text() == text {
+                return Some(keyword);
+            }
+        }
+        None
+    }
+
+    /// The line with this word and these arguments.
+    pub fn line(self, alloc: Global, given: Arguments) -> Line
+        ensures words { line_words result ≡ word_of self ∷ argument_words (kinds_of self) given }
+        ensures line { AllFit (kinds_of self) given → IsLine result }
+    {
+        let Arguments {
+            first,
+            second,
+            third: _,
+            fills,
+        } = given;
+        match self {
+            Keyword::Seed => Line::Seed(first.into_bytes(alloc)),
+            Keyword::Create => Line::Do(Command::Create {
+                user: first.number(),
+            }),
+            Keyword::Recover => Line::Do(Command::Recover),
+            Keyword::Turn => Line::Turns(first.actor(), second.number()),
+            Keyword::All => Line::All,
+            Keyword::Stop => Line::Stop(Cut {
+                keep: u64::from(first.number()),
+                fills,
+            }),
+            Keyword::Restart => Line::Restart(first.number()),
+        }
+    }
+}
