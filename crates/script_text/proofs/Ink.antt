@@ -1,5 +1,6 @@
 -- The words of a line have no spaces and no line feeds, so its text falls into them again.
-use Rattle.std.proofs.Common.{◌≡◌, ◌≢◌, ℕ, zero, suc, ◌<◌, ◌≤◌, ◌^◌, ◌/◌, ◌%◌, Bool, true, false, ◌&&◌, List, [], ◌∷◌, ◌++◌, length, get_or, slice_index, map, refl, sym, ap, ◌∙◌, arith}
+use Rattle.std.proofs.Common.{◌≡◌, ◌≢◌, ℕ, zero, suc, ◌<◌, ◌≤◌, ◌^◌, ◌/◌, ◌%◌, Bool, true, false, ◌&&◌, List, []}
+use Rattle.std.proofs.Common.{◌∷◌, ◌++◌, length, get_or, slice_index, map, refl, sym, ap, ◌∙◌, arith}
 use Rattle.std.specs.Prelude.{codes, nat_le, Option, Some, None}
 use Rattle.std.specs.List.{AllByRecursion}
 use Rattle.std.proofs.lemmas.Fmt.{decimal_is_IsNumeral}
@@ -19,7 +20,8 @@ use Rattle.script_text.specs.declared.forms.Keyword.{Keyword}
 use Rattle.script_text.specs.declared.forms.Keyword.TheVariants.{Seed}
 use Rattle.script_text.specs.declared.script.Line.{Line}
 use Rattle.script_text.specs.Words.{decimal, bytes_word, actor_word, fill_word, spaced, joined}
-use Rattle.script_text.specs.Arguments.{AreBytes, IsFill, IsTurner, Fits, LastFit, AllFit, number_in, bytes_in, actor_in, value_words, last_words, argument_words}
+use Rattle.script_text.specs.Arguments.{AreBytes, IsFill, IsTurner, Fits, LastFit, AllFit, number_in, bytes_in}
+use Rattle.script_text.specs.Arguments.{actor_in, value_words, last_words, argument_words}
 use Rattle.script_text.specs.Forms.{word_of, kinds_of}
 use Rattle.script_text.specs.Script.{IsLine, row_of, line_words, spelling}
 use Rattle.script_text.specs.Reading.{Lacks, Reads, words_in}
@@ -31,11 +33,13 @@ IsInk word = AllByRecursion (λ byte. 32 < byte) word
 
 pub Lacks-ink : (byte : ℕ) (word : List ℕ) → byte ≤ 32 → IsInk word → Lacks byte word
 Lacks-ink byte [] low ink = tt
-Lacks-ink byte (b ∷ word) low ink = ((λ same. let dark : 32 < b = ink.0 in absurd (omega arith)), Lacks-ink byte word low ink.1)
+Lacks-ink byte (b ∷ word) low ink =
+    ((λ same. let dark : 32 < b = ink.0 in absurd (omega arith)), Lacks-ink byte word low ink.1)
 
 IsInk-from_reads : (word : List ℕ) → ((k : ℕ) → k < length word → 32 < get_or word k 0) → IsInk word
 IsInk-from_reads [] reads = tt
-IsInk-from_reads (b ∷ word) reads = (reads 0 (omega arith), IsInk-from_reads word (λ k within. reads (suc k) (omega arith)))
+IsInk-from_reads (b ∷ word) reads =
+    (reads 0 (omega arith), IsInk-from_reads word (λ k within. reads (suc k) (omega arith)))
 
 pub IsInk-decimal : (n : ℕ) → n < 2 ^ 32 → IsInk (decimal n)
 IsInk-decimal n small = IsInk-from_reads (decimal n) (λ k within.
@@ -107,7 +111,8 @@ IsInk-arguments kinds given fit =
     each_joined IsInk (value_words kinds.first given.first) (second ++ (third ++ last))
     (IsInk-value kinds.first given.first fit.first)
     (each_joined IsInk second (third ++ last) (IsInk-value kinds.second given.second fit.second)
-    (each_joined IsInk third last (IsInk-value kinds.third given.third fit.third) (IsInk-last kinds.fills given.fills fit.fills)))
+    (each_joined IsInk third last (IsInk-value kinds.third given.third fit.third)
+    (IsInk-last kinds.fills given.fills fit.fills)))
 
 -- a test of the table
 IsInk-word : (keyword : Keyword) → IsInk (word_of keyword)
@@ -124,11 +129,15 @@ Lacks-words (word ∷ words) ink = (Lacks-ink 32 word (omega arith) ink.0, Lacks
 
 Lacks-spaced : (words : List (List ℕ)) → AllByRecursion IsInk words → Lacks 10 (spaced words)
 Lacks-spaced [] ink = tt
-Lacks-spaced (word ∷ words) ink = ((λ e. absurd (omega arith)), each_joined (λ b. b ≢ 10) word (spaced words) (Lacks-ink 10 word (omega arith) ink.0) (Lacks-spaced words ink.1))
+Lacks-spaced (word ∷ words) ink = (
+  (λ e. absurd (omega arith)),
+  each_joined (λ b. b ≢ 10) word (spaced words) (Lacks-ink 10 word (omega arith) ink.0) (Lacks-spaced words ink.1),
+)
 
 Lacks-joined : (words : List (List ℕ)) → AllByRecursion IsInk words → Lacks 10 (joined words)
 Lacks-joined [] ink = tt
-Lacks-joined (word ∷ words) ink = each_joined (λ b. b ≢ 10) word (spaced words) (Lacks-ink 10 word (omega arith) ink.0) (Lacks-spaced words ink.1)
+Lacks-joined (word ∷ words) ink =
+    each_joined (λ b. b ≢ 10) word (spaced words) (Lacks-ink 10 word (omega arith) ink.0) (Lacks-spaced words ink.1)
 
 -- no line has a line feed in it
 pub Lacks-spelling : (line : Line) → IsLine line → Lacks 10 (spelling line)
@@ -139,10 +148,12 @@ pub words_of_line : (line : Line) → IsLine line → words_in (spelling line) �
 words_of_line line is =
     let row = row_of line in
     let ink = IsInk-line line is in
-    words_in-joined (word_of row.0) (argument_words (kinds_of row.0) row.1) (Lacks-ink 32 (word_of row.0) (omega arith) ink.0)
+    words_in-joined (word_of row.0) (argument_words (kinds_of row.0) row.1)
+    (Lacks-ink 32 (word_of row.0) (omega arith) ink.0)
     (Lacks-words (argument_words (kinds_of row.0) row.1) ink.1)
 
 -- a line read from the words of a text is read from the text
-pub read_by_words : (text : List ℕ) (read : Option Line) → Reads IsLine line_words (words_in text) read → Reads IsLine spelling text read
+pub read_by_words : (text : List ℕ) (read : Option Line) → Reads IsLine line_words (words_in text) read
+    → Reads IsLine spelling text read
 read_by_words text None none = λ line is e. none line is (ap words_in e ∙ words_of_line line is)
 read_by_words text (Some line) found = (found.0, sym (joined-words_in text) ∙ ap joined found.1)

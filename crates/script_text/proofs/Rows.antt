@@ -1,5 +1,6 @@
 -- A line is known by its words: no two lines have the same.
-use Rattle.std.proofs.Common.{◌≡◌, ◌≢◌, ℕ, suc, ◌<◌, ◌≤◌, Bool, true, false, if◌then◌else◌, List, [], ◌∷◌, ◌++◌, get_or, drop, refl, sym, ap, subst, ◌∙◌, arith}
+use Rattle.std.proofs.Common.{◌≡◌, ◌≢◌, ℕ, suc, ◌<◌, ◌≤◌, Bool, true, false, if◌then◌else◌, List, [], ◌∷◌, ◌++◌}
+use Rattle.std.proofs.Common.{get_or, drop, refl, sym, ap, subst, ◌∙◌, arith}
 use Rattle.std.specs.Prelude.{nat_eq, length, Option, Some, None}
 use Rattle.std.specs.Cmp.Lexicographic.{pointwise, same_text}
 use Rattle.std.proofs.lemmas.Option.{none-some, same_Some}
@@ -13,7 +14,8 @@ use Rattle.script_text.specs.declared.forms.Keyword.{Keyword}
 use Rattle.script_text.specs.declared.forms.Keyword.TheVariants as keyword
 use Rattle.script_text.specs.declared.script.Line.{Line}
 use Rattle.script_text.specs.declared.script.Line.TheVariants.{Do, Stop}
-use Rattle.script_text.specs.Arguments.{Fits, LastFit, AllFit, number_in, bytes_in, actor_in, value_words, last_words, argument_words}
+use Rattle.script_text.specs.Arguments.{Fits, LastFit, AllFit, number_in, bytes_in, actor_in, value_words}
+use Rattle.script_text.specs.Arguments.{last_words, argument_words}
 use Rattle.script_text.specs.Forms.{every, word_of, kinds_of}
 use Rattle.script_text.specs.Script.{IsLine, row_of, line_words, spelling}
 use Rattle.script_text.specs.Reading.{words_in}
@@ -38,7 +40,8 @@ found-none : (text : List ℕ) (words : List Keyword)
     → ((k : ℕ) → k < length words → text ≢ word_of (get_or words k keyword.Seed)) → found text words ≡ None
 found-none text [] reads = refl
 found-none text (word ∷ words) reads =
-    by_test (pointwise nat_eq text (word_of word)) refl (found-none text words (λ k within. reads (suc k) (omega arith)))
+    by_test (pointwise nat_eq text (word_of word)) refl
+    (found-none text words (λ k within. reads (suc k) (omega arith)))
   where
     by_test : (t : Bool) → pointwise nat_eq text (word_of word) ≡ t → found text words ≡ None
         → (if t then Some word else found text words) ≡ None
@@ -49,7 +52,8 @@ found-none text (word ∷ words) reads =
 pub none_met : (text : List ℕ) (i : ℕ) → 7 ≤ i → ((k : ℕ) → k < i → text ≢ word_of (get_or every k keyword.Seed))
     → (word : Keyword) → text ≢ word_of word
 none_met text i past reads word e =
-    none-some word (sym (found-none text every (λ k within. reads k (omega arith))) ∙ ap (λ t. found t every) e ∙ listed word)
+    none-some word
+    (sym (found-none text every (λ k within. reads k (omega arith))) ∙ ap (λ t. found t every) e ∙ listed word)
 
 -- two values of a kind are the same, as far as it wants one
 abbrev pub Agree : Kind → Argument → Argument → Type 0
@@ -69,7 +73,8 @@ same_value : (kind : Kind) (one other : Argument) (more others : List (List ℕ)
 same_value kind.Nothing one other more others fits fit e = tt
 same_value kind.Never one other more others fits fit e = tt
 same_value (kind.Number least most) one other more others fits fit e =
-    decimal_injective (number_in one) (number_in other) (omega (arith, fits.0)) (omega (arith, fit.0)) (ap (λ ws. get_or ws 0 []) e)
+    decimal_injective (number_in one) (number_in other) (omega (arith, fits.0)) (omega (arith, fit.0))
+    (ap (λ ws. get_or ws 0 []) e)
 same_value kind.Bytes one other more others fits fit e =
     same_bytes (bytes_in one) (bytes_in other) fits.1 fit.1 (ap (λ ws. get_or ws 0 []) e)
 same_value kind.Actor one other more others fits fit e =

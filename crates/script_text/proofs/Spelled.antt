@@ -1,5 +1,6 @@
 -- When a word is the text of bytes, of a fill and of an actor: no two have one text.
-use Rattle.std.proofs.Common.{◌≡◌, ◌≢◌, ℕ, zero, suc, ◌<◌, ◌≤◌, ◌^◌, List, [], ◌∷◌, length, get_or, map, refl, sym, ap, ◌∙◌, arith}
+use Rattle.std.proofs.Common.{◌≡◌, ◌≢◌, ℕ, zero, suc, ◌<◌, ◌≤◌, ◌^◌, List, [], ◌∷◌, length, get_or, map, refl, sym}
+use Rattle.std.proofs.Common.{ap, ◌∙◌, arith}
 use Rattle.std.specs.Prelude.{codes, None, Result, Ok, Err}
 use Rattle.std.specs.List.{AllByRecursion}
 use Rattle.std.proofs.lemmas.Fmt.{decimal_is_IsNumeral, decimal_injective}
@@ -20,10 +21,12 @@ IsBytes-from [] are k = omega arith
 IsBytes-from (b ∷ bytes) are zero = are.0
 IsBytes-from (b ∷ bytes) are (suc k) = IsBytes-from bytes are.1 k
 
-pub same_encoding : (one other : List ℕ) → AreBytes one → AreBytes other → encode_lower one ≡ encode_lower other → one ≡ other
+pub same_encoding : (one other : List ℕ) → AreBytes one → AreBytes other → encode_lower one ≡ encode_lower other
+    → one ≡ other
 same_encoding one other are too e =
     let decoded : ◌≡◌ {A = Result (List ℕ) FromHexError} (Ok one) (Ok other) =
-    sym (decode_of-encode_lower one (IsBytes-from one are)) ∙ ap decode_of e ∙ decode_of-encode_lower other (IsBytes-from other too) in
+    sym (decode_of-encode_lower one (IsBytes-from one are)) ∙ ap decode_of e
+    ∙ decode_of-encode_lower other (IsBytes-from other too) in
     cc
 
 pub same_bytes : (one other : List ℕ) → AreBytes one → AreBytes other → bytes_word one ≡ bytes_word other → one ≡ other
@@ -42,8 +45,10 @@ pub encoded : (word value : List ℕ) → word ≢ codes "-" → word ≡ bytes_
 encoded word [] apart e = absurd (apart e)
 encoded word (b ∷ value) apart e = e
 
-pub decoded : (word value : List ℕ) → word ≢ codes "-" → AreBytes value → word ≡ bytes_word value → decode_of word ≡ Ok value
-decoded word value apart are e = ap decode_of (encoded word value apart e) ∙ decode_of-encode_lower value (IsBytes-from value are)
+pub decoded : (word value : List ℕ) → word ≢ codes "-" → AreBytes value → word ≡ bytes_word value
+    → decode_of word ≡ Ok value
+decoded word value apart are e =
+    ap decode_of (encoded word value apart e) ∙ decode_of-encode_lower value (IsBytes-from value are)
 
 pub spelled : (word bytes : List ℕ) → word ≢ [] → word ≡ encode_lower bytes → word ≡ bytes_word bytes
 unfolding encode_with
@@ -58,18 +63,21 @@ pub bytes_decoded : (word bytes : List ℕ) → decode_of word ≡ Ok bytes → 
 bytes_decoded word bytes e = AreBytes-from bytes (decode_of-ok word bytes e).3
 
 -- a word that doesn't decode
-pub no_decoding : (word : List ℕ) (e : FromHexError) → word ≢ codes "-" → decode_of word ≡ Err e → Reads AreBytes bytes_word word None
+pub no_decoding : (word : List ℕ) (e : FromHexError) → word ≢ codes "-" → decode_of word ≡ Err e
+    → Reads AreBytes bytes_word word None
 no_decoding word e apart failed value are is = let came = decoded word value apart are is in cc
 
 -- a word that isn't as its bytes are spelled
-pub other_digits : (word bytes digits : List ℕ) → word ≢ codes "-" → decode_of word ≡ Ok bytes → digits ≡ encode_lower bytes → digits ≢ word → Reads AreBytes bytes_word word None
+pub other_digits : (word bytes digits : List ℕ) → word ≢ codes "-" → decode_of word ≡ Ok bytes
+    → digits ≡ encode_lower bytes → digits ≢ word → Reads AreBytes bytes_word word None
 other_digits word bytes digits apart came spelt differ value are is =
     let again = decoded word value apart are is in
     let same : bytes ≡ value = cc in
     differ (spelt ∙ ap encode_lower same ∙ sym (encoded word value apart is))
 
 -- more bytes than there may be
-pub too_long : (word bytes : List ℕ) → AreBytes bytes → word ≡ bytes_word bytes → 64 < length bytes → Reads AreShort bytes_word word None
+pub too_long : (word bytes : List ℕ) → AreBytes bytes → word ≡ bytes_word bytes → 64 < length bytes
+    → Reads AreShort bytes_word word None
 too_long word bytes are is long value short e =
     let same = same_bytes bytes value are short.1 (sym is ∙ e) in
     let few : length value ≤ 64 = short.0 in
@@ -85,7 +93,8 @@ same_fill Same (Bytes bytes) is was e = absurd (no_bytes_as_same bytes e)
 same_fill (Bytes bytes) Same is was e = absurd (no_bytes_as_same bytes (sym e))
 same_fill (Bytes one) (Bytes other) is was e = ap Bytes (same_bytes one other is.1 was.1 e)
 
-pub same_fills : (one other : List Fill) → AllByRecursion IsFill one → AllByRecursion IsFill other → map fill_word one ≡ map fill_word other → one ≡ other
+pub same_fills : (one other : List Fill) → AllByRecursion IsFill one → AllByRecursion IsFill other
+    → map fill_word one ≡ map fill_word other → one ≡ other
 same_fills [] [] each every e = refl
 same_fills [] (fill ∷ other) each every e = cc
 same_fills (fill ∷ one) [] each every e = cc

@@ -84,8 +84,8 @@ LastFit false fills = Unit {0}
 -- the words of arguments of these kinds, in order
 abbrev pub argument_words : Kinds → Arguments → List (List ℕ)
 argument_words kinds given =
-    value_words kinds.first given.first
-    ++ (value_words kinds.second given.second ++ (value_words kinds.third given.third ++ last_words kinds.fills given.fills))
+    let behind = value_words kinds.third given.third ++ last_words kinds.fills given.fills in
+    value_words kinds.first given.first ++ (value_words kinds.second given.second ++ behind)
 
 -- a line may have these arguments of these kinds
 pub record AllFit (kinds : Kinds) (given : Arguments) : Type 0 where

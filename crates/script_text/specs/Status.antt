@@ -1,7 +1,8 @@
 -- How a run ends: the number that its process gives, and what is written in place of the output.
 use Rattle.std.specs.Prelude.{ℕ, List, [], ◌∷◌, ◌++◌, codes}
 use Rattle.script_text.specs.declared.status.Status.{Status}
-use Rattle.script_text.specs.declared.status.Status.TheVariants.{Done, Usage, BadScript, ReadFault, WriteFault, NoMemory}
+use Rattle.script_text.specs.declared.status.Status.TheVariants.{Done, Usage, BadScript, ReadFault, WriteFault}
+use Rattle.script_text.specs.declared.status.Status.TheVariants.{NoMemory}
 
 -- the number that the process gives
 abbrev pub number_of_status : Status → ℕ

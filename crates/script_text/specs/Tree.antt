@@ -3,7 +3,8 @@ use Rattle.std.specs.Prelude.{ℕ, List, [], ◌∷◌, ◌++◌, length, codes,
 use Rattle.std.specs.List.{flat_map}
 use Rattle.std.specs.FinMap as map
 use Rattle.tree_model.specs.declared.files.FileName.{FileName}
-use Rattle.tree_model.specs.declared.files.FileName.TheVariants.{Version, EncryptedKey, Blob, BlobUpgraded, BlobNew, Discard, Stretching, Salt}
+use Rattle.tree_model.specs.declared.files.FileName.TheVariants.{Version, EncryptedKey, Blob, BlobUpgraded}
+use Rattle.tree_model.specs.declared.files.FileName.TheVariants.{BlobNew, Discard, Stretching, Salt}
 use Rattle.tree_model.specs.declared.places.Slot.{Slot}
 use Rattle.tree_model.specs.declared.places.Slot.TheVariants.{Current, Cx}
 use Rattle.tree_model.specs.declared.places.Place.{Place}

@@ -1,3 +1,4 @@
+//! Adds pieces at the end of a text.
 ghost use Rattle.std.specs.Prelude.{◌≡◌, [], ◌∷◌, ◌++◌, OnOk};
 ghost use Rattle.script_text.specs.Words.{decimal, bytes_word};
 

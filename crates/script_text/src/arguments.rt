@@ -1,6 +1,7 @@
 //! What may follow the word that a line begins with: the kinds of arguments, and their values.
 ghost use Rattle.std.specs.Prelude.{◌≡◌};
-ghost use Rattle.script_text.specs.Arguments.{number_in, bytes_in, actor_in, no_kinds, one_kind, two_kinds, three_kinds};
+ghost use Rattle.script_text.specs.Arguments.{number_in, bytes_in, actor_in, no_kinds, one_kind, two_kinds};
+ghost use Rattle.script_text.specs.Arguments.{three_kinds};
 
 use journal_model::Actor;
 use std::alloc::Global;

@@ -1,3 +1,4 @@
+//! Reads a word as bytes in hex.
 ghost use Rattle.std.specs.Prelude.{IfOk};
 ghost use Rattle.script_text.specs.Words.{bytes_word};
 ghost use Rattle.script_text.specs.Arguments.{AreBytes, AreShort};

@@ -1,3 +1,4 @@
+//! Reads words as the fills of a stop.
 ghost use Rattle.std.specs.Prelude.{◌≡◌, ◌≤◌, length, IfOk, option_copied};
 ghost use Rattle.script_text.specs.Words.{fill_word, fill_words};
 ghost use Rattle.script_text.specs.Arguments.{AreFills, IsFill};

@@ -89,7 +89,8 @@ impl Keyword {
 
     /// The word that has this text.
     pub fn named(text: &[u8]) -> Option<Keyword>
-        ensures { MatchOption result ((keyword : Word) → text.now ≢ word_of keyword) (λ keyword. text.now ≡ word_of keyword) }
+        ensures { MatchOption result ((keyword : Word) → text.now ≢ word_of keyword)
+            (λ keyword. text.now ≡ word_of keyword) }
     {
         for keyword in Keyword::EVERY {
             if keyword.text() == text {

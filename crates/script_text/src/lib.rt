@@ -3,10 +3,10 @@
 #![tactic(auto)]
 
 mod appending;
-pub mod arguments;
+mod arguments;
 pub mod byte_words;
 mod fills;
-pub mod forms;
+mod forms;
 pub mod journal_lines;
 pub mod numbers;
 mod reading;

@@ -1,3 +1,4 @@
+//! Reads a word as a number.
 ghost use Rattle.std.specs.Prelude.{◌≡◌, ◌↔◌, IsTrue, MatchOption};
 ghost use Rattle.script_text.specs.Words.{decimal};
 ghost use Rattle.script_text.specs.Script.{IsNoNumber};

@@ -1,9 +1,11 @@
 //! Reads a line: its word, its form in the table of the words, and its arguments by their kinds.
 ghost use Rattle.std.specs.Prelude.{◌≡◌, [], ◌∷◌, ◌++◌, MatchOption, IfOk, option_copied};
 ghost use Rattle.script_text.specs.Words.{decimal, actor_word};
-ghost use Rattle.script_text.specs.Arguments.{argument_words, value_words, last_words, AllFit, Fits, LastFit, IsTurner, IsWithin};
+ghost use Rattle.script_text.specs.Arguments.{argument_words, value_words, last_words, AllFit, Fits, LastFit};
+ghost use Rattle.script_text.specs.Arguments.{IsTurner, IsWithin};
 ghost use Rattle.script_text.specs.Script.{IsLine, line_words, spelling};
-ghost use Rattle.script_text.specs.Reading.{Reads, Lacks, IsSplit, words_in, words_after, BeginsNoLine, BeginsNoValue, BeginsWith};
+ghost use Rattle.script_text.specs.Reading.{Reads, Lacks, IsSplit, words_in, words_after, BeginsNoLine};
+ghost use Rattle.script_text.specs.Reading.{BeginsNoValue, BeginsWith};
 
 use crate::arguments::{Argument, Arguments, Kind, Kinds};
 use crate::byte_words::short_bytes_of;
@@ -78,7 +80,8 @@ fn first_value(
     words: Option<&[u8]>,
 ) -> Result<Option<(Argument, Option<&[u8]>)>, NoMemory>
     ensures { IfOk result (λ read. MatchOption read (BeginsNoValue kind (words_after (option_copied words.entry)))
-        (λ found. BeginsWith kind (words_after (option_copied words.entry)) found.0 (words_after (option_copied found.1)))) }
+        (λ found. BeginsWith kind (words_after (option_copied words.entry)) found.0
+        (words_after (option_copied found.1)))) }
 {
     if kind == Kind::Nothing {
         return Ok(Some((Argument::Nothing, words)));

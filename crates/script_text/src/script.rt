@@ -1,3 +1,4 @@
+//! Scripts: their lines, where each may stand, and reading one.
 ghost use Rattle.std.specs.Prelude.{◌≡◌, ◌↔◌, IsTrue, IfOk, IfSome, IfNone, option_copied};
 ghost use Rattle.script_text.specs.Script.{may_follow as allows, seed_of, IsPlaced, IsScript, IsNoScript, OneReading};
 ghost use Rattle.script_text.specs.Arguments.{AreShort};

@@ -1,3 +1,4 @@
+//! How a run ends.
 ghost use Rattle.std.specs.Prelude.{◌≡◌};
 ghost use Rattle.script_text.specs.Status.{number_of_status, message_of};
 

@@ -1,3 +1,4 @@
+//! Texts that are printed and read, against texts from outside.
 use crate::{
     Line, Script, Status, bytes_of, number_of, print_journal, print_script, print_tree, read_script,
 };

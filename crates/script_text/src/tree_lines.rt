@@ -1,12 +1,13 @@
+//! Prints a tree: each directory with its files.
 ghost use Rattle.std.specs.Prelude.{◌≡◌, [], ◌∷◌, ◌++◌, OnOk, IfOk};
 ghost use Rattle.std.specs.List.{flat_map};
 ghost use Rattle.std.specs.FinMap as map;
 ghost use Rattle.script_text.specs.Words.{spaced, ten_digits};
-ghost use Rattle.script_text.specs.Tree.{slot_word, place_word, file_word, file_line, dir_text, tries_words, tree_section};
+ghost use Rattle.script_text.specs.Tree.{slot_word, place_word, file_word, file_line, dir_text, tries_words};
+ghost use Rattle.script_text.specs.Tree.{tree_section};
 
-use crate::appending::{
-    push_bytes, push_decimal, push_line_feed, push_number, push_text, push_word,
-};
+use crate::appending::{push_decimal, push_line_feed, push_text};
+use crate::shown::{Shown, push_all, push_line};
 use std::alloc::Global;
 use tree_model::{Bytes, Dir, FileName, NoMemory, Place, Slot};
 
@@ -24,8 +25,8 @@ pub fn print_tree(
     ensures { IfOk result (λ text. text ≡ tree_section first.now dirs.now tries) }
 {
     let mut out = Vec::new(alloc);
-    push_text(&mut out, first)?;
-    push_number(alloc, &mut out, dirs.len() as u64)?;
+    let count = Shown::Number(dirs.len() as u64);
+    push_line(alloc, &mut out, first, &[count])?;
     push_tries(alloc, &mut out, tries)?;
     push_line_feed(&mut out)?;
     for dir in dirs {
@@ -40,8 +41,8 @@ fn push_tries(alloc: Global, out: &mut Vec<u8>, tries: Option<u32>) -> Result<()
     match tries {
         None => Ok(()),
         Some(tries) => {
-            push_word(out, b"checkpoint")?;
-            push_number(alloc, out, u64::from(tries))
+            let tries = Shown::Number(u64::from(tries));
+            push_all(alloc, out, &[Shown::Text(b"checkpoint"), tries])
         }
     }
 }
@@ -69,10 +70,9 @@ fn push_files(alloc: Global, out: &mut Vec<u8>, dir: &Dir) -> Result<(), NoMemor
 fn push_file(alloc: Global, out: &mut Vec<u8>, name: FileName, bytes: &[u8]) -> Result<(), NoMemory>
     ensures { OnOk result (out.new.items ≡ out.old.items ++ file_line (name, bytes.now)) }
 {
-    push_text(out, b"file")?;
-    push_word(out, text_of_name(name))?;
-    push_number(alloc, out, bytes.len() as u64)?;
-    push_bytes(alloc, out, bytes)?;
+    let name = Shown::Text(text_of_name(name));
+    let count = Shown::Number(bytes.len() as u64);
+    push_line(alloc, out, b"file", &[name, count, Shown::Bytes(bytes)])?;
     push_line_feed(out)
 }
 

@@ -9,7 +9,8 @@ pub returns-then-len-eq-MOST_FILLS : goal.returns-then-len-eq-MOST_FILLS
 returns-then-len-eq-MOST_FILLS c =
     let count : vec_len c.loop-rest.fills ≡ length c.loop-rest.fills.items = search rules in
     too_many _ c.loop-rest.fills.items c.in-Some.text.now
-    (c.loop-rest.invariant.read ∙ ap (λ rest. fill_words c.loop-rest.fills.items ++ words_after (option_copied rest)) c.in-Some.is)
+    (c.loop-rest.invariant.read
+    ∙ ap (λ rest. fill_words c.loop-rest.fills.items ++ words_after (option_copied rest)) c.in-Some.is)
     (sym count ∙ sym c.len.ensures ∙ c.if-len-eq-MOST_FILLS.true)
 
 pub returns-in_default-2 : goal.returns-in_default-2

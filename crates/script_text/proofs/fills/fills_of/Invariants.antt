@@ -7,7 +7,12 @@ use Rattle.script_text.specs.Reading.{words_after}
 use Rattle.script_text.proofs.fills.fills_of.Given as goal
 
 abbrev pub invariant-loop-rest : goal.invariant-loop-rest
-invariant-loop-rest l = record { few : AreFills l.fills.items; read : words_after (option_copied l.fn.words) ≡ fill_words l.fills.items ++ words_after (option_copied l.rest) }
+invariant-loop-rest l =
+    record {
+      few : AreFills l.fills.items;
+      read : words_after (option_copied l.fn.words)
+          ≡ fill_words l.fills.items ++ words_after (option_copied l.rest);
+    }
 
 abbrev pub decreases-loop-rest : goal.decreases-loop-rest
 decreases-loop-rest l = length (words_after (option_copied l.rest))

@@ -14,11 +14,16 @@ loop-name-preserved c =
     elim c.match-get.branch [
       | in-Some+in_ok-push_file w ↦
           let found = ap option_copied (sym w.in-Some.is) ∙ c.get.ensures in
-          let pushed : w.push_file.new.out.items ≡ out ++ file_line (name, w.as_slice.result.now) = w.in_ok-push_file.ensures in
-          let added = ap (λ o. o.items) w.out-is ∙ pushed ∙ ap (λ bytes. out ++ file_line (name, bytes)) w.as_slice.ensures in
-          entry_added file_total file_line c.args.dir.now c.names-name-items.result.now c.loop-name.name-index Version w.in-Some.bytes.now out c.match-get.out.items _
+          let pushed : w.push_file.new.out.items ≡ out ++ file_line (name, w.as_slice.result.now) =
+          w.in_ok-push_file.ensures in
+          let added =
+          ap (λ o. o.items) w.out-is ∙ pushed ∙ ap (λ bytes. out ++ file_line (name, bytes)) w.as_slice.ensures in
+          entry_added file_total file_line c.args.dir.now c.names-name-items.result.now c.loop-name.name-index
+          Version w.in-Some.bytes.now out c.match-get.out.items _
           c.names-name-items.ensures c.loop-name-test.true found c.loop-name.invariant added
       | in_default w ↦
-          absurd (key_found file_total c.args.dir.now c.names-name-items.result.now c.loop-name.name-index Version c.names-name-items.ensures c.loop-name-test.true
+          absurd
+          (key_found file_total c.args.dir.now c.names-name-items.result.now c.loop-name.name-index Version
+          c.names-name-items.ensures c.loop-name-test.true
           (ap option_copied (sym w.in_default.is) ∙ c.get.ensures))
     ]

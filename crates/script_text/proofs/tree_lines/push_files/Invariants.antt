@@ -6,4 +6,6 @@ use Rattle.script_text.specs.Tree.{file_line}
 use Rattle.script_text.proofs.tree_lines.push_files.Given as goal
 
 abbrev pub invariant-loop-name : goal.invariant-loop-name
-invariant-loop-name l = l.out.items ++ flat_map file_line (drop l.name-index (map.entries l.dir)) ≡ l.initial.out.items ++ flat_map file_line (map.entries l.dir)
+invariant-loop-name l =
+    l.out.items ++ flat_map file_line (drop l.name-index (map.entries l.dir))
+    ≡ l.initial.out.items ++ flat_map file_line (map.entries l.dir)
