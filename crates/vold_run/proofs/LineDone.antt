@@ -132,11 +132,11 @@ module _ {D : Type 0} (disk : D → Disk) (counts : D → Counts) (before after 
   pub given-done : (command : Command) → IsLine (Do command) → before.power.phase ≢ Halted → IsWhole disk after → (answer : Result ℕ EnqueueFault) → IsEnqueued before after command answer → (result : Result (Unit {0}) NoMemory) → (IsOk result → IsOk answer) → OnOk result (IsLineDone disk counts (Do command) before after)
   given-done command line ready whole answer enqueued (Err fault) given = tt
   given-done (Create user) line ready whole (Ok number) enqueued (Ok done) given = command-done user ready whole enqueued.2
-  given-done Recover line ready whole (Ok number) enqueued (Ok done) given = absurd line
+  given-done Recover line ready whole (Ok number) enqueued (Ok done) given = absurd line.first
   given-done command line ready whole (Err fault) enqueued (Ok done) given = absurd (not_ok (Err fault) fault refl (given refl))
 
   -- where a restart's recovery got its number
-  pub begun-done : (level : ℕ) → level ≡ 1 → IsWhole disk after → (answer : Result ℕ EnqueueFault) → OnOk answer (IsRestarted disk counts before after level) → (result : Result (Unit {0}) NoMemory) → (IsOk result → IsOk answer) → OnOk result (IsLineDone disk counts (Restart level) before after)
-  begun-done level one whole answer restarted (Err fault) given = tt
-  begun-done level one whole (Ok number) restarted (Ok done) given = restart-done level one whole restarted
-  begun-done level one whole (Err fault) restarted (Ok done) given = absurd (not_ok (Err fault) fault refl (given refl))
+  pub begun-done : (level : ℕ) → IsLine (Restart level) → IsWhole disk after → (answer : Result ℕ EnqueueFault) → OnOk answer (IsRestarted disk counts before after level) → (result : Result (Unit {0}) NoMemory) → (IsOk result → IsOk answer) → OnOk result (IsLineDone disk counts (Restart level) before after)
+  begun-done level line whole answer restarted (Err fault) given = tt
+  begun-done level line whole (Ok number) restarted (Ok done) given = restart-done level (omega (arith, line.first.1, line.first.2)) whole restarted
+  begun-done level line whole (Err fault) restarted (Ok done) given = absurd (not_ok (Err fault) fault refl (given refl))
