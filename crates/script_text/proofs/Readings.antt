@@ -33,12 +33,16 @@ last_at : (before : Option Line) (line : Line) (lines : List Line)
 last_at before line [] = refl
 last_at before line (next ∷ lines) = last_at (Some line) next lines
 
--- the last of the lines as code finds it
-pub last_found : (lines : List Line) → slice_get lines (length lines - 1) ≡ last_of None lines
-last_found [] = refl
-last_found (line ∷ lines) =
+last_there : (lines : List Line) → slice_get lines (length lines - 1) ≡ last_of None lines
+last_there [] = refl
+last_there (line ∷ lines) =
     let behind : length (line ∷ lines) - 1 ≡ length lines = omega arith in
     ap (slice_get (line ∷ lines)) behind ∙ last_at None line lines
+
+-- the last of the lines as code finds it
+pub last_found : (lines items : List Line) (last : Option Line) → last ≡ slice_get items (length items - 1)
+    → items ≡ lines → last ≡ last_of None lines
+last_found lines items last found same = found ∙ ap (λ s. slice_get s (length s - 1)) same ∙ last_there lines
 
 order_joined : (before : Option Line) (lines more : List Line) → AreInOrder before lines
     → AreInOrder (last_of before lines) more → AreInOrder before (lines ++ more)

@@ -8,6 +8,10 @@ use Rattle.std.proofs.lemmas.Bool.{eqb-true, ne_eqb}
 use Rattle.script_text.specs.Words.{spaced, joined}
 use Rattle.script_text.specs.Reading.{Lacks, IsSplit, in_front, words_in}
 
+-- what is_empty tells
+pub not_empty : (text : List ℕ) → false ≡ nat_eq (length text) 0 → text ≢ []
+not_empty text some e = let no : false ≡ true = some ∙ ap (λ t. nat_eq (length t) 0) e in cc
+
 -- two texts that are cut at the first of one byte are cut alike
 pub same_cut : (byte : ℕ) (a b x y : List ℕ) → Lacks byte a → Lacks byte b → a ++ byte ∷ x ≡ b ++ byte ∷ y
     → (a ≡ b) × (x ≡ y)

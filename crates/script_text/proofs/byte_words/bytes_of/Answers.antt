@@ -1,8 +1,9 @@
-use Rattle.std.proofs.Common.{◌≡◌, ◌≢◌, ℕ, List, [], inl, inr, length, nat_eq, false, true, sym, ap, ◌∙◌}
+use Rattle.std.proofs.Common.{◌≡◌, inl, inr, length, sym, ap, ◌∙◌}
 use Rattle.std.specs.Cmp.Lexicographic.{other_text, same_text}
 use Rattle.std.proofs.lemmas.Bool.{eqb-true}
 use Rattle.std.proofs.lemmas.List.{nil_from_length}
 use Rattle.hex.specs.Hex.{encode_lower}
+use Rattle.script_text.proofs.Splits.{not_empty}
 use Rattle.script_text.proofs.Spelled.{some_bytes, no_decoding, other_digits, spelled, bytes_decoded}
 use Rattle.script_text.proofs.byte_words.bytes_of.Goals as goal
 
@@ -21,8 +22,7 @@ returns-in_default c =
 
 pub returns-then-eq-2 : goal.returns-then-eq-2
 returns-then-eq-2 c =
-    let some : c.args.word.now ≢ [] =
-    λ e. let no : false ≡ true = c.if-is_empty.ensures ∙ ap (λ (word : List ℕ). nat_eq (length word) 0) e in cc in
+    let some = not_empty c.args.word.now c.if-is_empty.ensures in
     let digits : c.as_bytes.result.now ≡ encode_lower c.in-Ok.bytes.items =
     c.as_bytes.ensures.value ∙ c.in_ok-digits.ensures ∙ ap encode_lower c.as_slice-2.ensures.value in
     let word = sym (same_text c.as_bytes.result.now c.args.word.now c.if-eq-2.ensures) ∙ digits in
