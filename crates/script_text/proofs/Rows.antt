@@ -49,7 +49,8 @@ found-none text (word ∷ words) reads =
     by_test false is rest = rest
 
 -- a text that is that of none in the list is no keyword's
-pub none_met : (text : List ℕ) (i : ℕ) → 7 ≤ i → ((k : ℕ) → k < i → text ≢ word_of (get_or every k keyword.Seed))
+pub none_met : (text : List ℕ) (i : ℕ) → length every ≤ i
+    → ((k : ℕ) → k < i → text ≢ word_of (get_or every k keyword.Seed))
     → (word : Keyword) → text ≢ word_of word
 none_met text i past reads word e =
     none-some word

@@ -1,5 +1,5 @@
 //! What may follow the word that a line begins with: the kinds of arguments, and their values.
-ghost use Rattle.std.specs.Prelude.{◌≡◌};
+ghost use Rattle.std.specs.Prelude.{◌≡◌, true};
 ghost use Rattle.script_text.specs.Arguments.{number_in, bytes_in, actor_in, no_kinds, one_kind, two_kinds};
 ghost use Rattle.script_text.specs.Arguments.{three_kinds};
 
@@ -62,6 +62,16 @@ impl Kinds {
             second,
             third,
             fills: false,
+        }
+    }
+
+    /// The same arguments, and then fills.
+    pub fn with_fills(self) -> Kinds
+        ensures { result ≡ record self { fills = true } }
+    {
+        Kinds {
+            fills: true,
+            ..self
         }
     }
 }

@@ -62,13 +62,7 @@ impl Keyword {
             Keyword::Recover => (b"recover", Kinds::one(Kind::Never)),
             Keyword::Turn => (b"turn", Kinds::two(Kind::Actor, COUNT)),
             Keyword::All => (b"all", Kinds::none()),
-            Keyword::Stop => (
-                b"stop",
-                Kinds {
-                    fills: true,
-                    ..Kinds::one(ANY_NUMBER)
-                },
-            ),
+            Keyword::Stop => (b"stop", Kinds::one(ANY_NUMBER).with_fills()),
             Keyword::Restart => (b"restart", Kinds::one(LEVEL)),
         }
     }

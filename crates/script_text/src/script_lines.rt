@@ -7,7 +7,7 @@ ghost use Rattle.script_text.specs.Journal.{command_words};
 use crate::appending::push_line_feed;
 use crate::forms::Keyword;
 use crate::script::{Line, Script};
-use crate::shown::{Shown, push_line};
+use crate::shown::{Row, Shown, number};
 use journal_model::Command;
 use std::alloc::Global;
 use tree_model::{Bytes, NoMemory};
@@ -18,43 +18,31 @@ pub fn print_script(alloc: Global, script: &Script) -> Result<Bytes, NoMemory>
 {
     let mut out = Vec::new(alloc);
     for line in script.lines() {
-        push_script_line(alloc, &mut out, line)?;
+        push_line(alloc, &mut out, line)?;
         push_line_feed(&mut out)?;
     }
     Ok(Bytes::from_vec(out))
 }
 
-fn push_script_line(alloc: Global, out: &mut Vec<u8>, line: &Line) -> Result<(), NoMemory>
+fn push_line(alloc: Global, out: &mut Vec<u8>, line: &Line) -> Result<(), NoMemory>
     ensures { OnOk result (out.new.items ≡ out.old.items ++ spelling line.now) }
 {
     match line {
         Line::Seed(bytes) => {
-            let seed = Shown::Bytes(bytes.as_slice());
-            push_line(alloc, out, Keyword::Seed.text(), &[seed])
+            Row::one(Keyword::Seed.text(), Shown::Bytes(bytes.as_slice())).push(alloc, out)
         }
         Line::Do(command) => push_command(alloc, out, command),
         Line::Turns(actor, count) => {
-            let count = Shown::Number(u64::from(*count));
-            push_line(
-                alloc,
-                out,
-                Keyword::Turn.text(),
-                &[Shown::Actor(*actor), count],
-            )
+            let row = Row::two(Keyword::Turn.text(), Shown::Actor(*actor), number(*count));
+            row.push(alloc, out)
         }
-        Line::All => push_line(alloc, out, Keyword::All.text(), &[]),
+        Line::All => Row::alone(Keyword::All.text()).push(alloc, out),
         Line::Stop(cut) => {
             let fills = Shown::Fills(cut.fills.as_slice());
-            push_line(
-                alloc,
-                out,
-                Keyword::Stop.text(),
-                &[Shown::Number(cut.keep), fills],
-            )
+            Row::two(Keyword::Stop.text(), Shown::Number(cut.keep), fills).push(alloc, out)
         }
         Line::Restart(level) => {
-            let level = Shown::Number(u64::from(*level));
-            push_line(alloc, out, Keyword::Restart.text(), &[level])
+            Row::one(Keyword::Restart.text(), number(*level)).push(alloc, out)
         }
     }
 }
@@ -65,9 +53,8 @@ pub fn push_command(alloc: Global, out: &mut Vec<u8>, command: &Command) -> Resu
 {
     match command {
         Command::Create { user } => {
-            let user = Shown::Number(u64::from(*user));
-            push_line(alloc, out, Keyword::Create.text(), &[user])
+            Row::one(Keyword::Create.text(), number(*user)).push(alloc, out)
         }
-        Command::Recover => push_line(alloc, out, Keyword::Recover.text(), &[]),
+        Command::Recover => Row::alone(Keyword::Recover.text()).push(alloc, out),
     }
 }

@@ -1,7 +1,7 @@
 //! Prints words: a line is its first word and what is shown behind it.
-ghost use Rattle.std.specs.Prelude.{◌≡◌, ◌∷◌, ◌++◌, OnOk};
+ghost use Rattle.std.specs.Prelude.{◌≡◌, [], ◌∷◌, ◌++◌, OnOk};
 ghost use Rattle.script_text.specs.Words.{actor_word, fill_words, spaced, joined};
-ghost use Rattle.script_text.specs.Shown.{shown_words, all_words};
+ghost use Rattle.script_text.specs.Shown.{shown_words, all_words, row_words};
 
 use crate::appending::{push_bytes, push_number, push_text, push_word};
 use journal_model::Actor;
@@ -11,6 +11,8 @@ use tree_model::{Fill, NoMemory};
 /// What is printed as words.
 #[derive(Clone, Copy)]
 pub enum Shown<'a> {
+    /// No word.
+    Nothing,
     /// A word as it stands.
     Text(&'a [u8]),
     /// A number in decimal.
@@ -23,21 +25,72 @@ pub enum Shown<'a> {
     Fills(&'a [Fill]),
 }
 
-/// Adds a word, and what is shown behind it.
-pub fn push_line(
-    alloc: Global,
-    out: &mut Vec<u8>,
-    first: &[u8],
-    rest: &[Shown<'_>],
-) -> Result<(), NoMemory>
-    ensures { OnOk result (out.new.items ≡ out.old.items ++ joined (first.now ∷ all_words rest.now)) }
+/// A number of 32 bits.
+pub fn number(number: u32) -> Shown<'static>
+    ensures { result ≡ Shown.Number number }
 {
-    push_text(out, first)?;
-    push_all(alloc, out, rest)
+    Shown::Number(u64::from(number))
+}
+
+/// A word, and what is shown behind it.
+#[derive(Clone, Copy)]
+pub struct Row<'a> {
+    pub word: &'a [u8],
+    pub rest: [Shown<'a>; 3],
+}
+
+impl<'a> Row<'a> {
+    /// The word alone.
+    pub fn alone(word: &'a [u8]) -> Row<'a>
+        ensures { row_words result ≡ word.now ∷ [] }
+    {
+        Row::one(word, Shown::Nothing)
+    }
+
+    /// One thing behind it.
+    pub fn one(word: &'a [u8], first: Shown<'a>) -> Row<'a>
+        ensures { row_words result ≡ word.now ∷ shown_words first.entry }
+    {
+        Row::two(word, first, Shown::Nothing)
+    }
+
+    /// Two things.
+    pub fn two(word: &'a [u8], first: Shown<'a>, second: Shown<'a>) -> Row<'a>
+        ensures { row_words result ≡ word.now ∷ (shown_words first.entry ++ shown_words second.entry) }
+    {
+        Row::three(word, first, second, Shown::Nothing)
+    }
+
+    /// Three things.
+    pub fn three(word: &'a [u8], first: Shown<'a>, second: Shown<'a>, third: Shown<'a>) -> Row<'a>
+        ensures { row_words result
+            ≡ word.now ∷ (shown_words first.entry ++ (shown_words second.entry ++ shown_words third.entry)) }
+    {
+        Row {
+            word,
+            rest: [first, second, third],
+        }
+    }
+
+    /// Adds it to a text.
+    pub fn push(&self, alloc: Global, out: &mut Vec<u8>) -> Result<(), NoMemory>
+        ensures { OnOk result (out.new.items ≡ out.old.items ++ joined (row_words self.now)) }
+    {
+        push_text(out, self.word)?;
+        push_all(alloc, out, &self.rest)
+    }
+
+    /// Adds a space and it.
+    pub fn push_behind(&self, alloc: Global, out: &mut Vec<u8>) -> Result<(), NoMemory>
+        ensures { OnOk result (out.new.items ≡ out.old.items ++ spaced (row_words self.now)) }
+    {
+        push_word(out, self.word)?;
+        push_all(alloc, out, &self.rest)
+    }
 }
 
 /// Adds what is shown, each word with a space before it.
-pub fn push_all(alloc: Global, out: &mut Vec<u8>, all: &[Shown<'_>]) -> Result<(), NoMemory>
+fn push_all(alloc: Global, out: &mut Vec<u8>, all: &[Shown<'_>]) -> Result<(), NoMemory>
     ensures { OnOk result (out.new.items ≡ out.old.items ++ spaced (all_words all.now)) }
 {
     for shown in all {
@@ -50,6 +103,7 @@ fn push_shown(alloc: Global, out: &mut Vec<u8>, shown: Shown<'_>) -> Result<(), 
     ensures { OnOk result (out.new.items ≡ out.old.items ++ spaced (shown_words shown.entry)) }
 {
     match shown {
+        Shown::Nothing => Ok(()),
         Shown::Text(text) => push_word(out, text),
         Shown::Number(number) => push_number(alloc, out, number),
         Shown::Bytes(bytes) => push_bytes(alloc, out, bytes),

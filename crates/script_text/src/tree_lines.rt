@@ -7,7 +7,7 @@ ghost use Rattle.script_text.specs.Tree.{slot_word, place_word, file_word, file_
 ghost use Rattle.script_text.specs.Tree.{tree_section};
 
 use crate::appending::{push_decimal, push_line_feed, push_text};
-use crate::shown::{Shown, push_all, push_line};
+use crate::shown::{Row, Shown, number};
 use std::alloc::Global;
 use tree_model::{Bytes, Dir, FileName, NoMemory, Place, Slot};
 
@@ -26,7 +26,7 @@ pub fn print_tree(
 {
     let mut out = Vec::new(alloc);
     let count = Shown::Number(dirs.len() as u64);
-    push_line(alloc, &mut out, first, &[count])?;
+    Row::one(first, count).push(alloc, &mut out)?;
     push_tries(alloc, &mut out, tries)?;
     push_line_feed(&mut out)?;
     for dir in dirs {
@@ -40,10 +40,7 @@ fn push_tries(alloc: Global, out: &mut Vec<u8>, tries: Option<u32>) -> Result<()
 {
     match tries {
         None => Ok(()),
-        Some(tries) => {
-            let tries = Shown::Number(u64::from(tries));
-            push_all(alloc, out, &[Shown::Text(b"checkpoint"), tries])
-        }
+        Some(tries) => Row::one(b"checkpoint", number(tries)).push_behind(alloc, out),
     }
 }
 
@@ -72,7 +69,7 @@ fn push_file(alloc: Global, out: &mut Vec<u8>, name: FileName, bytes: &[u8]) -> 
 {
     let name = Shown::Text(text_of_name(name));
     let count = Shown::Number(bytes.len() as u64);
-    push_line(alloc, out, b"file", &[name, count, Shown::Bytes(bytes)])?;
+    Row::three(b"file", name, count, Shown::Bytes(bytes)).push(alloc, out)?;
     push_line_feed(out)
 }
 
