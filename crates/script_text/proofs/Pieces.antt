@@ -1,5 +1,5 @@
 -- Texts that a loop adds piece by piece, and the entries of a finite map that a loop over its keys meets.
-use Rattle.std.proofs.Common.{◌≡◌, ℕ, zero, suc, ◌+◌, ◌<◌, ◌≤◌, Bool, true, false, cond, T, ◌&&◌, ◌-◌, List, []}
+use Rattle.std.proofs.Common.{◌≡◌, ℕ, zero, suc, ◌+◌, ◌<◌, Bool, true, false, cond, T, ◌&&◌, ◌-◌, List, []}
 use Rattle.std.proofs.Common.{◌∷◌, ◌++◌, length, get_or, take, drop, replicate, map, refl, sym, ap, subst, ◌∙◌}
 use Rattle.std.proofs.Common.{arith}
 use Rattle.std.specs.Prelude.{Some, None}
@@ -15,7 +15,7 @@ use Rattle.script_text.specs.declared.shown.Shown.{Shown}
 use Rattle.script_text.specs.Words.{spaced}
 use Rattle.script_text.specs.Shown.{shown_words, all_words}
 use Rattle.std.proofs.lemmas.Option.{none-some, same_Some}
-use Rattle.std.proofs.lemmas.List.{append_assoc, append-nil, drop_more, drop_all, get_or-map, length-map}
+use Rattle.std.proofs.lemmas.List.{append_assoc, drop_more, get_or-map, length-map}
 use Rattle.std.proofs.lemmas.List.{drop-replicate, take_all, length-replicate}
 
 module _ {X : Type 0} (f : X → List ℕ) (xs : List X) (i : ℕ) where
@@ -47,12 +47,6 @@ module _ (shown : List Shown) (i : ℕ) where
       ∙ ap (λ text. out ++ text) (sym (spaced-append words rest))
       ∙ ap (λ xs. out ++ spaced (all_words xs)) (sym (drop_more shown i d within))
       ∙ before
-
--- every piece is added
-pub all_added : {X : Type 0} (f : X → List ℕ) (xs : List X) (i : ℕ) (out all : List ℕ) → length xs ≤ i
-    → out ++ flat_map f (drop i xs) ≡ all → out ≡ all
-all_added f xs i out all past before =
-    sym (append-nil out) ∙ ap (λ rest. out ++ flat_map f rest) (sym (drop_all i xs past)) ∙ before
 
 -- a word of digits behind as many zeros as ten leave
 pub padded : (digits old zeros new : List ℕ)

@@ -1,5 +1,5 @@
 -- How a text is cut at the first of a byte, and how its words and the text determine each other.
-use Rattle.std.proofs.Common.{◌≡◌, ◌≢◌, ℕ, suc, ◌+◌, ◌-◌, ◌<◌, ◌≤◌, Bool, true, false, if◌then◌else◌, List, []}
+use Rattle.std.proofs.Common.{◌≡◌, ◌≢◌, ℕ, suc, ◌+◌, ◌-◌, ◌<◌, Bool, true, false, if◌then◌else◌, List, []}
 use Rattle.std.proofs.Common.{◌∷◌, ◌++◌, length, get_or, take, drop, refl, sym, ap, ◌∙◌, arith}
 use Rattle.std.specs.Prelude.{nat_eq}
 use Rattle.std.specs.List.{AllByRecursion}
@@ -56,11 +56,6 @@ cut_at byte bytes i within here before = record {
       let low : k < i = omega (arith, length-take-le i bytes) in
       λ e. before k low (sym (get_or-take i bytes k 0 low) ∙ e));
 }
-
--- a search for a byte finds none
-pub none_found : (byte : ℕ) (bytes : List ℕ) (i : ℕ) → length bytes ≤ i → ((k : ℕ) → k < i → get_or bytes k 0 ≢ byte)
-    → Lacks byte bytes
-none_found byte bytes i past before = Lacks-from_reads byte bytes (λ k within. before k (omega arith))
 
 -- ---- words
 unspaced : (b : ℕ) (bytes : List ℕ) → b ≢ 32 → words_in (b ∷ bytes) ≡ in_front b (words_in bytes)
