@@ -4,5 +4,7 @@ pub mod Dir
 pub mod Disk
 pub mod Files
 pub mod Order
+pub mod Parts
+pub mod Sites
 pub mod Touch
 pub mod Tree

@@ -5,9 +5,11 @@
 pub mod bytes;
 pub mod device;
 pub mod files;
+pub mod laws;
 pub mod memory;
 pub mod ops;
 pub mod places;
+pub mod sites;
 
 pub use bytes::Bytes;
 pub use device::{Boot, DevFault, TreeDisk};
@@ -15,6 +17,7 @@ pub use files::{Dir, FileName};
 pub use memory::NoMemory;
 pub use ops::{Cut, Fill, Fills, Op};
 pub use places::{Class, Place, Slot};
+pub use sites::{LocalOp, Site};
 
 #[cfg(test)]
 mod tests;
