@@ -1,72 +1,116 @@
--- What the next key after another is, and that fewer keys are left behind it.
-use Rattle.std.proofs.Common.{◌≡◌, suc, ◌<◌, ◌≤◌, Bool, true, false, cond, List, [], ◌∷◌, length, refl, sym, ap, ◌∙◌, subst, arith}
-use Rattle.std.specs.Prelude.{Option, Some, None}
+-- The first row whose key comes after another is the first key of the map after it.
+use Rattle.std.proofs.Common.{◌≡◌, ◌⊎◌, inl, inr, Bool, true, false, cond, List, [], ◌∷◌, refl, sym, ap, ◌∙◌, subst}
+use Rattle.std.specs.Prelude.{Option, Some, None, IsSome, ◌&&◌}
 use Rattle.std.specs.declared.cmp.Ordering.{Ordering}
 use Rattle.std.specs.declared.cmp.Ordering.TheVariants.{Less, Equal, Greater}
-use Rattle.std.specs.Ordering.{is_lt}
-use Rattle.std.specs.Cmp.{IsTotalOrder, tied_itself}
-use Rattle.std.specs.List.{find, filter}
-use Rattle.std.proofs.lemmas.Bool.{false≢true}
-use Rattle.sorted_map.specs.Rows.{keys, is_after, next_after}
+use Rattle.std.specs.Ordering.{is_lt, eq_by_cmp}
+use Rattle.std.specs.Cmp.{IsTotalOrder, alike_right, tied_back}
+use Rattle.std.specs.FinMap.{IsAntisymmetric, from_sorted}
+use Rattle.std.specs.FinMap.Entries.{find, below_all}
+use Rattle.std.specs.List.{find as find_first}
+use Rattle.tree_model.proofs.Maps.{equal, tied}
+use Rattle.sorted_map.specs.Maps.{IsAfter, IsNextKey}
+use Rattle.sorted_map.specs.Rows.{keys, IsSorted, is_after}
+use Rattle.sorted_map.proofs.Rows.{get-rows}
 
 less : (r : Ordering) → is_lt r ≡ true → r ≡ Less
 less Less e = refl
-less Equal e = absurd (false≢true e)
-less Greater e = absurd (false≢true e)
+less Equal e = cc
+less Greater e = cc
 
-module _ {A : Type 0} (test : A → Bool) where
-  -- what a search finds passes its test
-  found-passes : (xs : List A) (x : A) → find test xs ≡ Some x → test x ≡ true
-  found-passes [] x is = absurd (cc)
-  found-passes (y ∷ ys) x is =
-      elim (test y) as (λ b. test y ≡ b → cond b (Some y) (find test ys) ≡ Some x → test x ≡ true) [
-        | true ↦ λ passes same. let there : y ≡ x = cc in subst (λ z. test z ≡ true) there passes
-        | false ↦ λ fails rest. found-passes ys x rest
+first : (a b : Bool) → (a && b) ≡ true → a ≡ true
+first true b e = refl
+first false b e = e
+
+second : (a b : Bool) → (a && b) ≡ true → b ≡ true
+second true b e = e
+second false b e = cc
+
+module _ {K : Type 0} (R : K → K → Ordering) where
+  comes-after : (after : Option K) (key : K) → is_after R after key ≡ true → IsAfter R after key
+  comes-after None key e = tt
+  comes-after (Some a) key e = less (R a key) e
+
+  after-comes : (after : Option K) (key : K) → IsAfter R after key → is_after R after key ≡ true
+  after-comes None key h = refl
+  after-comes (Some a) key e = ap is_lt e
+
+  -- the key that was found is no later than this one
+  abbrev IsLeast : K → Option K → Type 0
+  IsLeast key None = ⊥
+  IsLeast key (Some next) = (R next key ≡ Less) ⊎ (R next key ≡ Equal)
+
+module _ {K V : Type 0} {R : K → K → Ordering} (total : IsTotalOrder R) (exact : IsAntisymmetric R) where
+  below-find : (low key : K) (rows : List (K × V)) → below_all R low rows ≡ true → IsSome (find R key rows)
+      → R low key ≡ Less
+  below-find low key [] below there = cc
+  below-find low key (row ∷ rows) below there =
+      elim (eq_by_cmp R key row.0) as (λ t. eq_by_cmp R key row.0 ≡ t → IsSome (cond t (Some row.1) (find R key rows))
+      → R low key ≡ Less) [
+        | true ↦ λ e h. alike_right total key row.0 low (equal (R key row.0) e) ∙ less (R low row.0) (first _ _ below)
+        | false ↦ λ e h. below-find low key rows (second _ _ below) h
+      ] refl there
+
+  next-there : (after : Option K) (next : K) (rows : List (K × V))
+      → find_first (is_after R after) (keys rows) ≡ Some next
+      → IsSome (find R next rows) × (is_after R after next ≡ true)
+  next-there after next [] e = absurd (cc)
+  next-there after next (row ∷ rows) is =
+      elim (is_after R after row.0) as (λ t. is_after R after row.0 ≡ t
+      → cond t (Some row.0) (find_first (is_after R after) (keys rows)) ≡ Some next
+      → IsSome (cond (eq_by_cmp R next row.0) (Some row.1) (find R next rows)) × (is_after R after next ≡ true)) [
+        | true ↦ λ comes e. let same : row.0 ≡ next = cc in (
+          subst (λ t. IsSome (cond t (Some row.1) (find R next rows)))
+              (sym (tied total exact next row.0 (sym same))) refl,
+          subst (λ key. is_after R after key ≡ true) same comes,
+        )
+        | false ↦ λ fails e. let rest = next-there after next rows e in
+            (either (eq_by_cmp R next row.0) (find R next rows) rest.0, rest.1)
       ] refl is
+    where
+      either : (t : Bool) (found : Option V) → IsSome found → IsSome (cond t (Some row.1) found)
+      either true found h = refl
+      either false found h = h
 
-  -- where a search finds nothing, no element passes
-  none-passes : (xs : List A) → find test xs ≡ None → filter test xs ≡ []
-  none-passes [] is = refl
-  none-passes (x ∷ xs) is =
-      elim (test x) as (λ b. cond b (Some x) (find test xs) ≡ None → cond b (x ∷ filter test xs) (filter test xs) ≡ []) [ true ↦ λ same. absurd (cc) | false ↦ none-passes xs ] is
-
-  -- a test that passes at fewer elements, but not at the one that was found, counts fewer
-  fewer : (narrow : A → Bool) → ((x : A) → narrow x ≡ true → test x ≡ true) → (xs : List A) → length (filter narrow xs) ≤ length (filter test xs)
-  fewer narrow within [] = omega arith
-  fewer narrow within (x ∷ xs) =
-      elim (narrow x) as (λ b. narrow x ≡ b → length (cond b (x ∷ filter narrow xs) (filter narrow xs)) ≤ length (cond (test x) (x ∷ filter test xs) (filter test xs))) [
-        | true ↦ λ passes. subst (λ b. suc (length (filter narrow xs)) ≤ length (cond b (x ∷ filter test xs) (filter test xs))) (sym (within x passes)) (omega (arith, fewer narrow within xs))
-        | false ↦ λ fails. elim (test x) as (λ b. length (filter narrow xs) ≤ length (cond b (x ∷ filter test xs) (filter test xs))) [ true ↦ omega (arith, fewer narrow within xs) | false ↦ fewer narrow within xs ]
+  -- no key that comes after is earlier than the next one
+  next-least : (after : Option K) (key : K) (rows : List (K × V)) → IsSorted R rows → IsSome (find R key rows)
+      → is_after R after key ≡ true → IsLeast R key (find_first (is_after R after) (keys rows))
+  next-least after key [] sorted there comes = absurd (none there)
+    where
+      none : IsSome (find {X = V} R key []) → ⊥
+      none e = cc
+  next-least after key (row ∷ rows) sorted there comes =
+      elim (is_after R after row.0) as (λ t. is_after R after row.0 ≡ t
+      → IsLeast R key (cond t (Some row.0) (find_first (is_after R after) (keys rows)))) [
+        | true ↦ λ e. elim (eq_by_cmp R key row.0) as (λ t. eq_by_cmp R key row.0 ≡ t
+            → IsSome (cond t (Some row.1) (find R key rows)) → IsLeast R key (Some row.0)) [
+              | true ↦ λ same h. inr (tied_back total key row.0 (equal (R key row.0) same))
+              | false ↦ λ apart h. inl (below-find row.0 key rows (first _ _ sorted) h)
+            ] refl there
+        | false ↦ λ e. elim (eq_by_cmp R key row.0) as (λ t. eq_by_cmp R key row.0 ≡ t
+            → IsSome (cond t (Some row.1) (find R key rows))
+            → IsLeast R key (find_first (is_after R after) (keys rows))) [
+              | true ↦ λ same h.
+                  let is : key ≡ row.0 = exact key row.0 (equal (R key row.0) same) in
+                  absurd (differ (sym (subst (λ k. is_after R after k ≡ true) is comes) ∙ e))
+              | false ↦ λ apart h. next-least after key rows (second _ _ sorted) h comes
+            ] refl there
       ] refl
+    where
+      differ : true ≡ false → ⊥
+      differ e = cc
 
-  fewer_found : (narrow : A → Bool) → ((x : A) → narrow x ≡ true → test x ≡ true) → (xs : List A) (x : A) → find test xs ≡ Some x → narrow x ≡ false → length (filter narrow xs) < length (filter test xs)
-  fewer_found narrow within [] x is left = absurd (cc)
-  fewer_found narrow within (y ∷ ys) x is left =
-      elim (test y) as (λ b. test y ≡ b → cond b (Some y) (find test ys) ≡ Some x → length (cond (narrow y) (y ∷ filter narrow ys) (filter narrow ys)) < length (cond b (y ∷ filter test ys) (filter test ys))) [
-        | true ↦ λ passes same.
-            let there : x ≡ y = cc in
-            subst (λ b. length (cond b (y ∷ filter narrow ys) (filter narrow ys)) < suc (length (filter test ys))) (sym (subst (λ z. narrow z ≡ false) there left)) (omega (arith, fewer narrow within ys))
-        | false ↦ λ fails rest. elim (narrow y) as (λ b. narrow y ≡ b → length (cond b (y ∷ filter narrow ys) (filter narrow ys)) < length (filter test ys)) [
-          | true ↦ λ passes. absurd (false≢true (sym fails ∙ within y passes))
-          | false ↦ λ _. fewer_found narrow within ys x rest left
-        ] refl
-      ] refl is
-
-module _ {K : Type 0} {R : K → K → Ordering} (total : IsTotalOrder R) where
-  beyond : (after : Option K) (key : K) → is_after R after key ≡ true → (other : K) → is_after R (Some key) other ≡ true → is_after R after other ≡ true
-  beyond None key comes other further = refl
-  beyond (Some first) key comes other further = ap is_lt (total.trans first key other (less _ comes) (less _ further))
-
-module _ {K V : Type 0} {R : K → K → Ordering} (total : IsTotalOrder R) where
-  -- the next key comes after
-  pub next-after : (rows : List (K × V)) (after : Option K) (key : K) → next_after R after rows ≡ Some key → is_after R after key ≡ true
-  next-after rows after key is = found-passes (is_after R after) (keys rows) key is
-
-  -- where there is no next key, none comes after
-  pub next-none : (rows : List (K × V)) (after : Option K) → next_after R after rows ≡ None → filter (is_after R after) (keys rows) ≡ []
-  next-none rows after is = none-passes (is_after R after) (keys rows) is
-
-  -- fewer keys come after the next one
-  pub next-fewer : (rows : List (K × V)) (after : Option K) (key : K) → next_after R after rows ≡ Some key → length (filter (is_after R (Some key)) (keys rows)) < length (filter (is_after R after) (keys rows))
-  next-fewer rows after key is =
-      fewer_found (is_after R after) (is_after R (Some key)) (beyond total after key (next-after rows after key is)) (keys rows) key is (ap is_lt (tied_itself total key))
+  -- the first row whose key comes after
+  pub next-key : (rows : List (K × V)) → IsSorted R rows → (after next : Option K)
+      → next ≡ find_first (is_after R after) (keys rows) → IsNextKey (from_sorted {R = R} rows) after next
+  next-key rows sorted after None is = λ key there comes.
+      let found = subst IsSome (get-rows R rows sorted key) there in
+      subst (IsLeast R key) (sym is) (next-least after key rows sorted found (after-comes R after key comes))
+  next-key rows sorted after (Some next) is =
+      let found = next-there after next rows (sym is) in (
+        subst IsSome (sym (get-rows R rows sorted next)) found.0,
+        comes-after R after next found.1,
+        λ key there comes.
+            let held = subst IsSome (get-rows R rows sorted key) there in
+            subst (IsLeast R key) (sym is) (next-least after key rows sorted held (after-comes R after key comes)),
+      )

@@ -1,13 +1,12 @@
 -- Where a binary search ends among keys that rise, and what an edit at that place does to the rows.
 use Rattle.std.proofs.Common.{◌≡◌, ℕ, zero, suc, ◌+◌, ◌<◌, ◌≤◌, Bool, true, false, cond, T, ◌&&◌, List, [], ◌∷◌, length, get_or, set, refl, sym, ap, ◌∙◌, subst, arith}
-use Rattle.std.specs.Prelude.{Some, None, Result, Ok, Err, IfOk, IfErr, slice_get, IsTrue, not, ◌==◌, ◌↔◌, is_ok, is_some}
+use Rattle.std.specs.Prelude.{Some, None, Result, Ok, Err, IfOk, IfErr, slice_get, not, is_ok, is_some}
 use Rattle.std.specs.declared.cmp.Ordering.{Ordering}
 use Rattle.std.specs.declared.cmp.Ordering.TheVariants.{Less, Equal, Greater}
 use Rattle.std.specs.Ordering.{ordering_reverse, is_lt, is_eq, eq_by_cmp}
 use Rattle.std.specs.Cmp.{IsTotalOrder, alike_right}
 use Rattle.std.specs.List.{insert, remove, zip, AllByRecursion, find as find_first}
 use Rattle.std.specs.List.Sorted.{IsSearchInRange, IsBinarySearchResult, IsStrictlySortedBy}
-use Rattle.std.proofs.lemmas.Bool.{eqb-true}
 use Rattle.std.proofs.lemmas.List.Sorted.{searchable_from_sorted}
 use Rattle.std.proofs.lemmas.Option.{slice_get-get_or}
 use Rattle.std.proofs.lemmas.List.{length-set}
@@ -48,11 +47,6 @@ rising aligned = keys-rise _ _ _ aligned.lengths aligned.sorted
 -- a key for each value
 pub length-rows : {K V : Type 0} (ks : List K) (vs : List V) → length vs ≡ length ks → length (zip ks vs) ≡ length ks
 length-rows ks vs long = length-zip ks vs ∙ omega (arith, long)
-
-pub empty-rows : {K V : Type 0} (ks : List K) (vs : List V) → length vs ≡ length ks → (n : ℕ) → n ≡ length ks → (r : Bool) → r ≡ (n == 0) → IsTrue r ↔ (zip ks vs ≡ [])
-empty-rows [] vs long n is r e = (λ _. refl, λ _. e ∙ ap (λ m. m == 0) is)
-empty-rows (k ∷ ks) [] long n is r e = absurd (omega arith)
-empty-rows (k ∷ ks) (v ∷ vs) long n is r e = (λ t. absurd (let none = eqb-true n 0 (sym e ∙ t) in omega arith), λ t. absurd (cc))
 
 is_some-get : {V : Type 0} (vs : List V) (i : ℕ) → i < length vs → is_some (slice_get vs i) ≡ true
 is_some-get [] i within = absurd (omega arith)

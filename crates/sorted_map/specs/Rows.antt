@@ -1,5 +1,5 @@
 -- Maps as lists of rows in the order of their keys, and where a key stands among keys that rise.
-use Rattle.std.specs.Prelude.{◌≡◌, ℕ, Bool, true, List, [], ◌∷◌, map, length, Option, Some, None, refl}
+use Rattle.std.specs.Prelude.{◌≡◌, ℕ, Bool, true, List, [], ◌∷◌, map, length, Option, Some, None}
 use Rattle.std.proofs.Common.{zero, suc}
 use Rattle.std.specs.declared.cmp.Ordering.{Ordering}
 use Rattle.std.specs.declared.cmp.Ordering.TheVariants.{Less, Equal, Greater}
@@ -7,16 +7,6 @@ use Rattle.std.specs.Ordering.{is_lt, eq_by_cmp}
 use Rattle.std.specs.Prelude.{not, IsTrue}
 use Rattle.std.specs.List.{find, zip}
 use Rattle.std.specs.FinMap.Entries.{is_sorted, where_key}
-use Rattle.std.specs.Coded.{Coded, code_by, coded×, coded_ℕ, coded_list}
-
--- a map: a row for each key, and how many further keys it has memory for
-pub record Sorted (K V : Type 0) : Type 0 where
-  pub rows : List (K × V)
-  pub room : ℕ
-
-abbrev pub sorted_code : {K V : Type 0} → Coded K → Coded V → Coded (Sorted K V)
-sorted_code {K} {V} key value =
-    code_by (List (K × V) × ℕ) (coded× (coded_list (coded× key value)) coded_ℕ) (λ map. (map.rows, map.room)) (λ parts. record { rows = parts.0; room = parts.1 }) (λ _. refl)
 
 -- the keys of rows, in their order
 abbrev pub keys : {K V : Type 0} → List (K × V) → List K

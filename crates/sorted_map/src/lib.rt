@@ -2,12 +2,17 @@
 //! was promised, and lends its keys as a slice.
 #![tactic(auto)]
 
-ghost use Rattle.std.specs.Prelude.{◌≡◌, ◌+◌, ◌^◌, ◌<◌, ◌≤◌, ◌↔◌, [], length, IsTrue, IsSome, IfSome, IfNone, IsOk, IfOk, OnOk, OnErr, IfErr, Some, slice_get, option_copied};
-ghost use Rattle.std.specs.FinMap.Entries.{find, put};
+ghost use Rattle.std.specs.Prelude.{◌≡◌, ◌+◌, ◌^◌, ◌<◌, ◌≤◌, ◌↔◌, length, IsTrue, IsSome, IfSome, IfNone, IsOk};
+ghost use Rattle.std.specs.Prelude.{IfOk, OnOk, OnErr, IfErr, Some, slice_get, option_copied};
+ghost use Rattle.std.specs.FinMap as map;
 ghost use Rattle.std.specs.List.{zip, find as first_that};
 ghost use Rattle.std.specs.List.Sorted.{IsStrictlySortedBy};
-ghost use Rattle.sorted_map.specs.Rows.{keys, values, IsSorted, IsAligned, without, is_after, next_after, StandsAt, BelongsAt};
+ghost use Rattle.sorted_map.specs.Maps.{held, IsNextKey};
+ghost use Rattle.sorted_map.specs.Rows.{IsAligned, is_after, StandsAt, BelongsAt};
 
+mod exact;
+
+pub use exact::ExactOrd;
 use std::alloc::Global;
 use std::marker::Model;
 use std::mem;
@@ -15,30 +20,34 @@ use tree_model::NoMemory;
 
 /// A map from keys to values.
 #[derive(Drop)]
-pub struct SortedMap<K: Ord + Copy, V> {
+pub struct SortedMap<K: Ord + ExactOrd + Copy, V> {
     keys: Vec<K>,
     values: Vec<V>,
 }
 
-impl<K: Ord + Copy, V> Model for SortedMap<K, V> {
+impl<K: Ord + ExactOrd + Copy, V> Model for SortedMap<K, V> {
     ghost use Rattle.std.specs.Prelude.{◌-◌, min, vec_len};
     ghost use Rattle.std.specs.Vec.{vec_capacity};
     ghost use Rattle.std.specs.List.{zip};
-    ghost use Rattle.sorted_map.specs.Rows.{Sorted, sorted_code, IsAligned};
+    ghost use Rattle.sorted_map.specs.Maps.{Stored, stored_code};
+    ghost use Rattle.sorted_map.specs.Rows.{IsAligned};
 
-    ghost Value = { Sorted K V };
+    ghost Value = { Stored K V };
 
-    ghost coded = { sorted_code K.code V.code };
+    ghost coded = { stored_code K.code V.code };
 
-    ghost view = { λ map. record { rows = zip map.keys.items map.values.items; room = min (vec_capacity map.keys - vec_len map.keys) (vec_capacity map.values - vec_len map.values) } };
+    ghost view = { λ map. record {
+      rows = zip map.keys.items map.values.items;
+      room = min (vec_capacity map.keys - vec_len map.keys) (vec_capacity map.values - vec_len map.values);
+    } };
 
     ghost invariant = { λ map. IsAligned K.cmp map.keys.items map.values.items };
 }
 
-impl<K: Ord + Copy, V> SortedMap<K, V> {
+impl<K: Ord + ExactOrd + Copy, V> SortedMap<K, V> {
     /// An empty map, which takes no memory.
     pub fn new(alloc: Global) -> SortedMap<K, V>
-        ensures { result.rows ≡ [] }
+        ensures { held K.cmp result ≡ map.empty }
     {
         SortedMap {
             keys: Vec::new(alloc),
@@ -49,48 +58,55 @@ impl<K: Ord + Copy, V> SortedMap<K, V> {
     /// The map of keys that strictly rise, each with its value.
     pub fn from_vectors(keys: Vec<K>, values: Vec<V>) -> SortedMap<K, V>
         requires { IsAligned K.cmp keys.items values.items }
-        ensures { result.rows ≡ zip keys.items values.items }
+        ensures { held K.cmp result ≡ map.from_sorted (zip keys.items values.items) }
     {
         SortedMap { keys, values }
     }
 
+    /// Takes every key out.
+    pub fn clear(&mut self)
+    where
+        V: Drop,
+        ensures { held K.cmp self.new ≡ map.empty }
+    {
+        self.keys.clear();
+        self.values.clear();
+    }
+
     /// The number of keys.
     pub fn len(&self) -> usize
-        ensures { result ≡ length self.now.rows }
+        ensures { result ≡ map.len (held K.cmp self.now) }
     {
         self.keys.len()
     }
 
     /// Whether there is no key.
     pub fn is_empty(&self) -> bool
-        ensures { IsTrue result ↔ (self.now.rows ≡ []) }
+        ensures { IsTrue result ↔ (held K.cmp self.now ≡ map.empty) }
     {
         self.keys.is_empty()
     }
 
     /// The keys, in order.
     pub fn keys(&self) -> &[K]
-        ensures keys { result.now ≡ keys self.now.rows }
-        ensures sorted { IsSorted K.cmp self.now.rows }
+        ensures { result.now ≡ map.keys (held K.cmp self.now) }
     {
         self.keys.as_slice()
     }
 
     /// The values, in the order of their keys.
     pub fn values(&self) -> &[V]
-        ensures values { result.now ≡ values self.now.rows }
-        ensures sorted { IsSorted K.cmp self.now.rows }
+        ensures { result.now ≡ map.values (held K.cmp self.now) }
     {
         self.values.as_slice()
     }
 
     /// Makes room for this many further keys.
     pub fn reserve(&mut self, further: usize) -> Result<(), NoMemory>
-        ensures rows { self.new.rows ≡ self.old.rows }
+        ensures held { held K.cmp self.new ≡ held K.cmp self.old }
         ensures room { OnOk result (further ≤ self.new.room) }
         ensures kept { self.old.room ≤ self.new.room }
         ensures succeeds { further ≤ self.old.room → IsOk result }
-        ensures sorted { IsSorted K.cmp self.old.rows }
     {
         self.keys.reserve(further)?;
         self.values.reserve(further)?;
@@ -99,8 +115,7 @@ impl<K: Ord + Copy, V> SortedMap<K, V> {
 
     /// The value of a key; None where it isn't there.
     pub fn get(&self, key: K) -> Option<&V>
-        ensures value { option_copied result ≡ find K.cmp key self.now.rows }
-        ensures sorted { IsSorted K.cmp self.now.rows }
+        ensures { option_copied result ≡ map.get (held K.cmp self.now) key }
     {
         match place(self.keys.as_slice(), key) {
             Ok(at) => Some(&self.values[at]),
@@ -110,8 +125,7 @@ impl<K: Ord + Copy, V> SortedMap<K, V> {
 
     /// Whether the key is there.
     pub fn contains_key(&self, key: K) -> bool
-        ensures found { IsTrue result ↔ IsSome (find K.cmp key self.now.rows) }
-        ensures sorted { IsSorted K.cmp self.now.rows }
+        ensures { IsTrue result ↔ IsSome (map.get (held K.cmp self.now) key) }
     {
         place(self.keys.as_slice(), key).is_ok()
     }
@@ -121,15 +135,13 @@ impl<K: Ord + Copy, V> SortedMap<K, V> {
     pub fn insert(&mut self, key: K, value: V) -> Result<Option<V>, NoMemory>
     where
         V: Drop,
-        ensures rows { OnOk result (self.new.rows ≡ put K.cmp key value self.old.rows) }
-        ensures before { IfOk result (λ before. before ≡ find K.cmp key self.old.rows) }
+        ensures held { OnOk result (held K.cmp self.new ≡ map.insert (held K.cmp self.old) key value) }
+        ensures before { IfOk result (λ before. before ≡ map.get (held K.cmp self.old) key) }
         ensures room { self.old.room ≤ self.new.room + 1 }
-        ensures kept { IsSome (find K.cmp key self.old.rows) → self.new.room ≡ self.old.room }
+        ensures kept { IsSome (map.get (held K.cmp self.old) key) → self.new.room ≡ self.old.room }
         ensures succeeds { 0 < self.old.room → IsOk result }
-        ensures there { IsSome (find K.cmp key self.old.rows) → IsOk result }
+        ensures there { IsSome (map.get (held K.cmp self.old) key) → IsOk result }
         ensures refused { OnErr result (self.new ≡ self.old) }
-        ensures was_sorted { IsSorted K.cmp self.old.rows }
-        ensures sorted { IsSorted K.cmp self.new.rows }
     {
         match place(self.keys.as_slice(), key) {
             Ok(at) => Ok(Some(mem::replace(&mut self.values[at], value))),
@@ -145,12 +157,10 @@ impl<K: Ord + Copy, V> SortedMap<K, V> {
 
     /// Takes the key out with its value; None where it isn't there.
     pub fn remove(&mut self, key: K) -> Option<V>
-        ensures value { result ≡ find K.cmp key self.old.rows }
-        ensures rows { self.new.rows ≡ without K.cmp key self.old.rows }
+        ensures value { result ≡ map.get (held K.cmp self.old) key }
+        ensures held { held K.cmp self.new ≡ map.remove (held K.cmp self.old) key }
         ensures room { IfSome result (λ _. self.new.room ≡ self.old.room + 1) }
         ensures kept { IfNone result (self.new.room ≡ self.old.room) }
-        ensures was_sorted { IsSorted K.cmp self.old.rows }
-        ensures sorted { IsSorted K.cmp self.new.rows }
     {
         match place(self.keys.as_slice(), key) {
             Ok(at) => {
@@ -163,12 +173,10 @@ impl<K: Ord + Copy, V> SortedMap<K, V> {
 
     /// The key, which is there, has this value in place of the one that comes back.
     pub fn replace(&mut self, key: K, value: V) -> V
-        requires { IsSome (find K.cmp key self.old.rows) }
-        ensures value { find K.cmp key self.old.rows ≡ Some result }
-        ensures rows { self.new.rows ≡ put K.cmp key value self.old.rows }
+        requires { IsSome (map.get (held K.cmp self.old) key) }
+        ensures value { map.get (held K.cmp self.old) key ≡ Some result }
+        ensures held { held K.cmp self.new ≡ map.insert (held K.cmp self.old) key value }
         ensures room { self.new.room ≡ self.old.room }
-        ensures was_sorted { IsSorted K.cmp self.old.rows }
-        ensures sorted { IsSorted K.cmp self.new.rows }
     {
         match place(self.keys.as_slice(), key) {
             Ok(at) => mem::replace(&mut self.values[at], value),
@@ -178,8 +186,7 @@ impl<K: Ord + Copy, V> SortedMap<K, V> {
 
     /// The first key above another, or the first of all; None where there is none.
     pub fn next_key(&self, after: Option<K>) -> Option<K>
-        ensures next { result ≡ next_after K.cmp after self.now.rows }
-        ensures sorted { IsSorted K.cmp self.now.rows }
+        ensures { IsNextKey (held K.cmp self.now) after result }
     {
         let keys = self.keys.as_slice();
         let at = place_after(keys, after);
@@ -192,7 +199,7 @@ impl<K: Ord + Copy, V> SortedMap<K, V> {
 }
 
 /// Where the key stands, or where it belongs.
-fn place<K: Ord + Copy>(keys: &[K], key: K) -> Result<usize, usize>
+fn place<K: Ord + ExactOrd + Copy>(keys: &[K], key: K) -> Result<usize, usize>
     requires { IsStrictlySortedBy K.cmp keys.now }
     ensures there { IfOk result (StandsAt K.cmp key keys.now) }
     ensures absent { IfErr result (BelongsAt K.cmp key keys.now) }
@@ -201,7 +208,7 @@ fn place<K: Ord + Copy>(keys: &[K], key: K) -> Result<usize, usize>
 }
 
 /// The place of the first key above another, or of the first of all, and else the number of keys.
-fn place_after<K: Ord + Copy>(keys: &[K], after: Option<K>) -> usize
+fn place_after<K: Ord + ExactOrd + Copy>(keys: &[K], after: Option<K>) -> usize
     requires rising { IsStrictlySortedBy K.cmp keys.now }
     requires few { length keys.now < 2 ^ 64 }
     ensures { slice_get keys.now result ≡ first_that (is_after K.cmp after) keys.now }

@@ -1,0 +1,10 @@
+use Rattle.sorted_map.proofs.Held.{nothing-held, nothing-aligned}
+use Rattle.sorted_map.proofs.SortedMap.clear.Goals as goal
+
+pub invariant_of-self : goal.invariant_of-self
+invariant_of-self g c =
+    nothing-aligned g.K.Ord.cmp c.clear.new.self.items c.clear-2.new.self.items
+    c.clear.ensures.items c.clear-2.ensures.items
+
+pub returns : goal.returns
+returns g c = nothing-held g.K.Ord.cmp _ c.clear-2.new.self.items c.clear.ensures.items
