@@ -1,4 +1,5 @@
-ghost use Rattle.std.specs.Prelude.{◌≡◌, ◌≤◌, ◌↔◌, IsTrue, IfSome, OnOk, OnErr, Contains, if◌then◌else◌, count_by, nat_lt};
+ghost use Rattle.std.specs.Prelude.{◌≡◌, ◌≤◌, ◌↔◌, IsTrue, IfSome, OnOk, OnErr, Contains};
+ghost use Rattle.std.specs.Prelude.{if◌then◌else◌, count_by, nat_lt};
 ghost use Rattle.std.specs.List.Sorted.{IsStrictlyIncreasing};
 ghost use Rattle.tree_model.specs.Counted.{IsPlanned, Rose, one_more};
 ghost use Rattle.tree_memory.specs.Medium.{no_counts};
@@ -18,7 +19,9 @@ pub struct Counter {
 
 impl Model for Counter {
     ghost use Rattle.std.specs.Prelude.{Some};
-    ghost use Rattle.sorted_map.specs.Rows.{keys};
+    ghost use Rattle.std.specs.FinMap as map;
+    ghost use Rattle.std.specs.Ordering.{nat_cmp};
+    ghost use Rattle.sorted_map.specs.Maps.{held};
     ghost use Rattle.tree_model.specs.Counted.{Counts};
     ghost use Rattle.tree_memory.specs.Medium.{counts_code};
 
@@ -26,7 +29,11 @@ impl Model for Counter {
 
     ghost coded = { counts_code };
 
-    ghost view = { λ counter. record { calls = counter.calls; faults = counter.faults; plan = Some (keys counter.planned.rows) } };
+    ghost view = { λ counter. record {
+      calls = counter.calls;
+      faults = counter.faults;
+      plan = Some (map.keys (held nat_cmp counter.planned));
+    } };
 }
 
 impl Counter {

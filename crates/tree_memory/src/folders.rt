@@ -1,4 +1,5 @@
-ghost use Rattle.std.specs.Prelude.{◌≡◌, ◌+◌, ◌<◌, ◌≤◌, ◌↔◌, [], length, Some, IsTrue, IsSome, IfSome, IfNone, IsOk, IfOk, OnOk, OnSome, option_copied};
+ghost use Rattle.std.specs.Prelude.{◌≡◌, ◌+◌, ◌<◌, ◌≤◌, ◌↔◌, [], length, Some};
+ghost use Rattle.std.specs.Prelude.{IsTrue, IsSome, IfSome, IfNone, IsOk, IfOk, OnOk, OnSome, option_copied};
 ghost use Rattle.std.specs.FinMap as map;
 ghost use Rattle.tree_model.specs.Tree.{at_dir, renamed_file, renamed_dir, after_op};
 ghost use Rattle.tree_model.specs.Disk.{filled, image};
@@ -15,8 +16,7 @@ pub struct Folders {
 }
 
 impl Model for Folders {
-    ghost use Rattle.std.specs.FinMap as map;
-    ghost use Rattle.sorted_map.specs.Rows.{IsSorted};
+    ghost use Rattle.sorted_map.specs.Maps.{held};
     ghost use Rattle.tree_model.specs.Order.{place_cmp};
     ghost use Rattle.tree_memory.specs.Shelf.{Shelf, shelf_code};
 
@@ -24,9 +24,7 @@ impl Model for Folders {
 
     ghost coded = { shelf_code };
 
-    ghost view = { λ folders. record { tree = map.from_sorted folders.dirs.rows; room = folders.dirs.room } };
-
-    ghost invariant = { λ folders. IsSorted place_cmp folders.dirs.rows };
+    ghost view = { λ folders. record { tree = held place_cmp folders.dirs; room = folders.dirs.room } };
 }
 
 impl Folders {
@@ -73,7 +71,7 @@ impl Folders {
     pub fn len(&self) -> usize
         ensures { result ≡ map.len self.now.tree }
     {
-        self.dirs.keys().len()
+        self.dirs.len()
     }
 
     /// Whether the place is there.

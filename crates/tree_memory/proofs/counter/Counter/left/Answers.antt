@@ -5,4 +5,4 @@ use Rattle.tree_memory.proofs.Planned.{planned-rise}
 use Rattle.tree_memory.proofs.counter.Counter.left.Goals as goal
 
 pub returns-clause-once : goal.returns-clause-once
-returns-clause-once c = subst (λ counts. IfSome counts.plan IsStrictlyIncreasing) c.self.view_is (planned-rise _ c.keys.ensures.sorted)
+returns-clause-once c = subst (λ counts. IfSome counts.plan IsStrictlyIncreasing) c.self.view_is (planned-rise _)
