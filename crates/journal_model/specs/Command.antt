@@ -1,4 +1,5 @@
--- The actor of a command.
+-- The actor of a command, and the user whom it is for.
+use Rattle.std.specs.Prelude.{ℕ, Option, Some, None}
 use Rattle.journal_model.specs.declared.commands.Actor.{Actor}
 use Rattle.journal_model.specs.declared.commands.Actor.TheVariants.{Boot, User}
 use Rattle.journal_model.specs.declared.commands.Command.{Command}
@@ -7,3 +8,11 @@ use Rattle.journal_model.specs.declared.commands.Command.TheVariants.{Create, Re
 abbrev pub actor_of : Command → Actor
 actor_of (Create user) = User user
 actor_of Recover = Boot
+
+abbrev pub user_in_actor : Actor → Option ℕ
+user_in_actor (User user) = Some user
+user_in_actor actor = None
+
+-- the user whom a command is for, if it is for one
+abbrev pub user_in : Command → Option ℕ
+user_in command = user_in_actor (actor_of command)

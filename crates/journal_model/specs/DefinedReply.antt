@@ -1,18 +1,18 @@
 -- The refusal of a command that the map of users alone decides.
-use Rattle.std.specs.Prelude.{◌≡◌, ℕ, cond, Option, Some, None}
-use Rattle.std.specs.FinMap as map
+use Rattle.std.specs.Prelude.{◌≡◌, ℕ, false, Option}
 use Rattle.journal_model.specs.declared.commands.Command.{Command}
-use Rattle.journal_model.specs.declared.commands.Command.TheVariants.{Create, Recover}
+use Rattle.journal_model.specs.declared.commands.Command.TheVariants.{Create}
 use Rattle.journal_model.specs.declared.commands.Reply.{Reply}
-use Rattle.journal_model.specs.declared.commands.Reply.TheVariants.{UserExists}
+use Rattle.journal_model.specs.Command.{user_in}
+use Rattle.journal_model.specs.Refusals.{refusal_of}
 use Rattle.journal_model.specs.Users.{Users, fold_changes}
-use Rattle.journal_model.specs.Machine.{Machine, verdict_of}
+use Rattle.journal_model.specs.Machine.{Machine, is_present, verdict_of}
 
--- a create of a user that is there is refused
+-- the refusal that is due whatever else is the case
 abbrev pub defined_reply_of : Command → Users → Option Reply
-defined_reply_of (Create user) users = cond (map.contains_key users user) (Some UserExists) None
-defined_reply_of Recover users = None
+defined_reply_of command users = refusal_of command (record { present = is_present (user_in command) users; ready = false })
 
 -- for a create it is the verdict of each machine whose log makes the map
 abbrev pub DefinedReplyIsVerdict : Type 0
-DefinedReplyIsVerdict = (machine : Machine) (user : ℕ) (users : Users) → fold_changes machine.log ≡ users → defined_reply_of (Create user) users ≡ verdict_of machine (Create user)
+DefinedReplyIsVerdict = (machine : Machine) (user : ℕ) (users : Users) → fold_changes machine.log ≡ users
+    → defined_reply_of (Create user) users ≡ verdict_of machine (Create user)

@@ -1,11 +1,13 @@
 pub mod Actor
 pub mod Command
 pub mod DefinedReply
+pub mod Durable
 pub mod Hashes
 pub mod Log
 pub mod Machine
 pub mod Made
 pub mod MadeLaws
 pub mod RecordCode
+pub mod Refusals
 pub mod Users
 pub mod Written

@@ -1,23 +1,25 @@
 -- The machine that a journal's entries step: what each entry does to it, and when the entry may come.
-use Rattle.std.specs.Prelude.{◌≡◌, ◌≢◌, ℕ, ◌+◌, ◌≤◌, cond, List, [], ◌∷◌, ◌++◌, length, take, drop, Option, Some, None, IsSomeAnd, IfSome, Contains}
+use Rattle.std.specs.Prelude.{◌≡◌, ◌≢◌, ℕ, ◌+◌, ◌≤◌, Bool, true, false, cond, List, [], ◌∷◌, ◌++◌, length, take, drop}
+use Rattle.std.specs.Prelude.{Option, Some, None, IsSomeAnd, IfSome, Contains}
 use Rattle.std.specs.Ordering.{nat_cmp, eq_by_cmp}
 use Rattle.std.specs.FinMap as map
 use Rattle.journal_model.specs.declared.commands.Actor.{Actor}
+use Rattle.journal_model.specs.declared.commands.Actor.TheVariants.{Boot}
 use Rattle.journal_model.specs.declared.commands.Command.{Command}
 use Rattle.journal_model.specs.declared.commands.Command.TheVariants.{Create, Recover}
 use Rattle.journal_model.specs.declared.commands.Reply.{Reply}
-use Rattle.journal_model.specs.declared.commands.Reply.TheVariants.{Done, Ended, UserExists, Ready, TreeFault}
+use Rattle.journal_model.specs.declared.commands.Reply.TheVariants.{Done, Ended, TreeFault}
 use Rattle.journal_model.specs.declared.entries.Change.{Change}
 use Rattle.journal_model.specs.declared.entries.Change.TheVariants.{Create as Created}
 use Rattle.journal_model.specs.declared.entries.Entry.{Entry}
 use Rattle.journal_model.specs.declared.entries.Entry.TheVariants.{Began, Changed, Synced, Stopped, Restarted, Replied}
+use Rattle.journal_model.specs.declared.phase.Phase.{Phase}
+use Rattle.journal_model.specs.declared.phase.Phase.TheVariants.{Up, Down, Halted}
+use Rattle.journal_model.specs.declared.refusals.Facts.{Facts}
 use Rattle.journal_model.specs.Actor.{actor_cmp}
-use Rattle.journal_model.specs.Command.{actor_of}
+use Rattle.journal_model.specs.Command.{actor_of, user_in}
+use Rattle.journal_model.specs.Refusals.{refusal_of}
 use Rattle.journal_model.specs.Users.{Users, fold_changes, owner_of}
-
--- it takes commands, waits for a recovery, or has stopped
-pub data Phase : Type 0 where
-  Up Down Halted : Phase
 
 -- a command that began: its number, the refusal that was due then, the changes that it made so far, and how many
 -- commands its actor had begun before it in the same boot
@@ -47,11 +49,8 @@ first_machine = record { phase = Up; boot = 0; level = 1; log = []; kept = 0; ru
 -- how many commands the actor began since the last restart, with one more entry
 abbrev pub count_after : Actor → ℕ → Entry → ℕ
 count_after actor count (Began number other command) = cond (eq_by_cmp actor_cmp actor other) (count + 1) count
-count_after actor count (Changed number change) = count
-count_after actor count Synced = count
-count_after actor count (Stopped kept) = count
 count_after actor count (Restarted boot level) = 0
-count_after actor count (Replied number reply) = count
+count_after actor count entry = count
 
 abbrev pub begun_from : ℕ → Actor → List Entry → ℕ
 begun_from count actor [] = count
@@ -63,113 +62,151 @@ begun_by actor entries = begun_from 0 actor entries
 -- the number of a command that began, as a list
 abbrev pub number_begun : Entry → List ℕ
 number_begun (Began number actor command) = number ∷ []
-number_begun (Changed number change) = []
-number_begun Synced = []
-number_begun (Stopped kept) = []
-number_begun (Restarted boot level) = []
-number_begun (Replied number reply) = []
+number_begun entry = []
 
 -- the numbers of the commands that began
 abbrev pub numbers_begun : List Entry → List ℕ
 numbers_begun [] = []
 numbers_begun (entry ∷ entries) = number_begun entry ++ numbers_begun entries
 
-abbrev pub ready_verdict : Phase → Option Reply
-ready_verdict Up = Some Ready
-ready_verdict Down = None
-ready_verdict Halted = None
+-- whether the user is there, if there is one
+abbrev pub is_present : Option ℕ → Users → Bool
+is_present None users = false
+is_present (Some user) users = map.contains_key users user
+
+abbrev pub is_up : Phase → Bool
+is_up Up = true
+is_up phase = false
+
+-- what decides whether a command is refused that begins on the machine
+abbrev pub facts_of : Machine → Command → Facts
+facts_of machine command = record {
+  present = is_present (user_in command) (fold_changes machine.log);
+  ready = is_up machine.phase;
+}
 
 -- the refusal that is due when a command begins
 abbrev pub verdict_of : Machine → Command → Option Reply
-verdict_of machine (Create user) = cond (map.contains_key (fold_changes machine.log) user) (Some UserExists) None
-verdict_of machine Recover = ready_verdict machine.phase
+verdict_of machine command = refusal_of command (facts_of machine command)
 
 abbrev pub begun : List Entry → Machine → Command → Running
-begun before machine command = record { command = command; verdict = verdict_of machine command; changes = []; index = begun_by (actor_of command) before }
+begun before machine command = record {
+  command = command;
+  verdict = verdict_of machine command;
+  changes = [];
+  index = begun_by (actor_of command) before;
+}
 
 abbrev pub with_change : Running → Change → Running
-with_change running change = record { command = running.command; verdict = running.verdict; changes = running.changes ++ change ∷ []; index = running.index }
+with_change running change = record running { changes = running.changes ++ change ∷ [] }
 
 abbrev pub if_running : {A : Type 0} → Option Running → A → (Running → A) → A
 if_running None default to = default
 if_running (Some running) default to = to running
 
--- a recovery that had to be made and ended brings the machine up
-abbrev pub phase_after : Phase → Running → Reply → Phase
-phase_after phase running (Ended count) = Up
-phase_after phase running Done = phase
-phase_after phase running UserExists = phase
-phase_after phase running Ready = phase
-phase_after phase running TreeFault = phase
+-- a recovery that ended brings the machine up
+abbrev pub phase_after : Phase → Command → Reply → Phase
+phase_after phase Recover (Ended count) = Up
+phase_after phase command reply = phase
 
 -- the machine after an entry
 abbrev pub after_entry : List Entry → Machine → Entry → Machine
-after_entry before machine (Began number actor command) = record machine { running = map.insert machine.running number (begun before machine command) }
+after_entry before machine (Began number actor command) =
+    record machine { running = map.insert machine.running number (begun before machine command) }
 after_entry before machine (Changed number change) = record machine {
   log = machine.log ++ change ∷ [];
-  running = if_running (map.get machine.running number) machine.running (λ running. map.insert machine.running number (with_change running change));
+  running = if_running (map.get machine.running number) machine.running
+      (λ running. map.insert machine.running number (with_change running change));
 }
 after_entry before machine Synced = record machine { kept = length machine.log }
-after_entry before machine (Stopped kept) = record machine { phase = Halted; log = take kept machine.log; kept = kept; running = no_running }
+after_entry before machine (Stopped kept) =
+    record machine { phase = Halted; log = take kept machine.log; kept = kept; running = no_running }
 after_entry before machine (Restarted boot level) = record machine { phase = Down; boot = boot; level = level }
 after_entry before machine (Replied number reply) = record machine {
-  phase = if_running (map.get machine.running number) machine.phase (λ running. phase_after machine.phase running reply);
+  phase = if_running (map.get machine.running number) machine.phase
+      (λ running. phase_after machine.phase running.command reply);
   running = map.remove machine.running number;
 }
 
--- a command may begin: a recovery once the machine has started again, any other once it is up
-abbrev pub TakesUp : Phase → Command → Type 0
-TakesUp Up command = Unit {0}
-TakesUp Down Recover = Unit {0}
-TakesUp Down (Create user) = ⊥
-TakesUp Halted command = ⊥
+-- the machine takes turns of the actor: of every one while it is up, of the recovery alone once it has started again
+abbrev pub TakesTurn : Phase → Actor → Type 0
+TakesTurn Up actor = Unit {0}
+TakesTurn Down actor = actor ≡ Boot
+TakesTurn Halted actor = ⊥
 
 -- no change of the user stands past the durable ones
 abbrev pub NoChangeOf : ℕ → List Change → Type 0
 NoChangeOf user [] = Unit {0}
 NoChangeOf user (change ∷ changes) = (owner_of change ≢ user) × NoChangeOf user changes
 
-abbrev pub IsDurable : Machine → ℕ → Type 0
-IsDurable machine user = NoChangeOf user (drop machine.kept machine.log)
+-- every change is durable, or every one of a user
+abbrev pub IsDurable : Machine → Option ℕ → Type 0
+IsDurable machine None = machine.kept ≡ length machine.log
+IsDurable machine (Some user) = NoChangeOf user (drop machine.kept machine.log)
 
--- the change that a running command may make next
-abbrev pub AllowsChange : Machine → Running → Command → Change → Type 0
-AllowsChange machine running (Create user) change = (running.changes ≡ []) × (change ≡ Created user (record { boot = machine.boot; index = running.index }))
-AllowsChange machine running Recover change = ⊥
+-- the change that a running command may make next, in this boot
+abbrev pub AllowsChange : ℕ → Running → Command → Change → Type 0
+AllowsChange boot running (Create user) change =
+    (running.changes ≡ []) × (change ≡ Created user (record { boot = boot; index = running.index }))
+AllowsChange boot running command change = ⊥
 
--- the reply that a command without a refusal may get
-abbrev pub AllowsEnd : Machine → Running → Command → Reply → Type 0
-AllowsEnd machine running (Create user) Done =
-    (Contains machine.log (Created user (record { boot = machine.boot; index = running.index }))) × IsDurable machine user
-AllowsEnd machine running (Create user) TreeFault = Unit {0}
-AllowsEnd machine running (Create user) (Ended count) = ⊥
-AllowsEnd machine running (Create user) UserExists = ⊥
-AllowsEnd machine running (Create user) Ready = ⊥
-AllowsEnd machine running Recover (Ended count) = (count ≡ 0) × (machine.kept ≡ length machine.log)
-AllowsEnd machine running Recover TreeFault = Unit {0}
-AllowsEnd machine running Recover Done = ⊥
-AllowsEnd machine running Recover UserExists = ⊥
-AllowsEnd machine running Recover Ready = ⊥
+-- how a reply ends a command: it did its work, it was refused, or a device failed
+pub data ReplyKind : Type 0 where
+  Success Refusal Fault : ReplyKind
+
+abbrev pub kind_of_reply : Reply → ReplyKind
+kind_of_reply Done = Success
+kind_of_reply (Ended count) = Success
+kind_of_reply TreeFault = Fault
+kind_of_reply reply = Refusal
+
+-- what a reply tells that a command did its work, by which changes are logged and whose are durable, in this boot
+abbrev pub AllowsSuccess : (Change → Type 0) → (Option ℕ → Type 0) → ℕ → Running → Command → Reply → Type 0
+AllowsSuccess Logged Durable boot running (Create user) Done =
+    Logged (Created user (record { boot = boot; index = running.index })) × Durable (Some user)
+AllowsSuccess Logged Durable boot running Recover (Ended count) = (count ≡ 0) × Durable None
+AllowsSuccess Logged Durable boot running command reply = ⊥
+
+-- a command that wasn't refused may be told that a device failed, or that it did its work
+abbrev pub MayEnd : ReplyKind → Type 0 → Type 0
+MayEnd Success did = did
+MayEnd Refusal did = ⊥
+MayEnd Fault did = Unit {0}
+
+abbrev pub Succeeds : Machine → Running → Reply → Type 0
+Succeeds machine running reply =
+    AllowsSuccess (Contains machine.log) (IsDurable machine) machine.boot running running.command reply
 
 abbrev pub AllowsReply : Machine → Running → Option Reply → Reply → Type 0
 AllowsReply machine running (Some verdict) reply = reply ≡ verdict
-AllowsReply machine running None reply = AllowsEnd machine running running.command reply
+AllowsReply machine running None reply = MayEnd (kind_of_reply reply) (Succeeds machine running reply)
+
+-- a command may begin of an actor whose turns the machine takes and that runs none
+pub record MayBegin (before : List Entry) (machine : Machine) (number : ℕ) (actor : Actor) (command : Command) : Type 0 where
+  pub own : actor ≡ actor_of command
+  pub idle : (other : ℕ) → IfSome (map.get machine.running other) (λ running. actor_of running.command ≢ actor)
+  pub fresh : ¬ (Contains (numbers_begun before) number)
+  pub takes : TakesTurn machine.phase actor
 
 -- the entry may come
 abbrev pub MayCome : List Entry → Machine → Entry → Type 0
-MayCome before machine (Began number actor command) =
-    (actor ≡ actor_of command) × ((other : ℕ) → IfSome (map.get machine.running other) (λ running. actor_of running.command ≢ actor)) × ¬ (Contains (numbers_begun before) number) × TakesUp machine.phase command
-MayCome before machine (Changed number change) =
-    IsSomeAnd (map.get machine.running number) (λ running. (running.verdict ≡ None) × AllowsChange machine running running.command change)
-MayCome before machine Synced = (number : ℕ) × IsSomeAnd (map.get machine.running number) (λ running. running.verdict ≡ None)
-MayCome before machine (Stopped kept) = (machine.phase ≢ Halted) × (machine.kept ≤ kept) × (kept ≤ length machine.log)
-MayCome before machine (Restarted boot level) = (machine.phase ≡ Halted) × (boot ≡ machine.boot + 1) × (machine.level ≤ level)
-MayCome before machine (Replied number reply) = IsSomeAnd (map.get machine.running number) (λ running. AllowsReply machine running running.verdict reply)
+MayCome before machine (Began number actor command) = MayBegin before machine number actor command
+MayCome before machine (Changed number change) = IsSomeAnd (map.get machine.running number)
+    (λ running. (running.verdict ≡ None) × AllowsChange machine.boot running running.command change)
+MayCome before machine Synced =
+    (number : ℕ) × IsSomeAnd (map.get machine.running number) (λ running. running.verdict ≡ None)
+MayCome before machine (Stopped kept) =
+    (machine.phase ≢ Halted) × (machine.kept ≤ kept) × (kept ≤ length machine.log)
+MayCome before machine (Restarted boot level) =
+    (machine.phase ≡ Halted) × (boot ≡ machine.boot + 1) × (machine.level ≤ level)
+MayCome before machine (Replied number reply) =
+    IsSomeAnd (map.get machine.running number) (λ running. AllowsReply machine running running.verdict reply)
 
 -- the machine after further entries
 abbrev pub machine_from : List Entry → Machine → List Entry → Machine
 machine_from before machine [] = machine
-machine_from before machine (entry ∷ entries) = machine_from (before ++ entry ∷ []) (after_entry before machine entry) entries
+machine_from before machine (entry ∷ entries) =
+    machine_from (before ++ entry ∷ []) (after_entry before machine entry) entries
 
 abbrev pub machine_after : List Entry → Machine
 machine_after entries = machine_from [] first_machine entries
@@ -177,7 +214,8 @@ machine_after entries = machine_from [] first_machine entries
 -- each further entry may come where it stands
 abbrev pub IsLegalFrom : List Entry → Machine → List Entry → Type 0
 IsLegalFrom before machine [] = Unit {0}
-IsLegalFrom before machine (entry ∷ entries) = MayCome before machine entry × IsLegalFrom (before ++ entry ∷ []) (after_entry before machine entry) entries
+IsLegalFrom before machine (entry ∷ entries) =
+    MayCome before machine entry × IsLegalFrom (before ++ entry ∷ []) (after_entry before machine entry) entries
 
 abbrev pub IsLegal : List Entry → Type 0
 IsLegal entries = IsLegalFrom [] first_machine entries

@@ -3,9 +3,10 @@ ghost use Rattle.std.specs.Cmp.{partial_order_from_own_ties};
 ghost use Rattle.std.specs.Cmp.Rules.{comparing};
 ghost use Rattle.std.specs.Ordering.{as_partial_cmp};
 ghost use Rattle.std.specs.Prelude.{◌≡◌, IfOk};
-ghost use Rattle.journal_model.specs.Actor.{actor_cmp, actor_total};
-ghost use Rattle.journal_model.specs.Command.{actor_of};
+ghost use Rattle.journal_model.specs.Actor.{actor_cmp, actor_total, actor_exact};
+ghost use Rattle.journal_model.specs.Command.{actor_of, user_in};
 
+use sorted_map::ExactOrd;
 use std::alloc::Global;
 use std::cmp::Ordering;
 use tree_model::NoMemory;
@@ -51,6 +52,10 @@ impl PartialOrd for Actor {
     }
 }
 
+impl ExactOrd for Actor {
+    ghost exact = { actor_exact };
+}
+
 /// What an actor is asked to do.
 #[derive(Drop)]
 pub enum Command {
@@ -68,6 +73,16 @@ impl Command {
         match self {
             Command::Create { user } => Actor::User(*user),
             Command::Recover => Actor::Boot,
+        }
+    }
+
+    /// The user whom the command is for, if it is for one.
+    pub fn user(&self) -> Option<u32>
+        ensures { result ≡ user_in self.now }
+    {
+        match self.actor() {
+            Actor::User(user) => Some(user),
+            Actor::Boot | Actor::Cp => None,
         }
     }
 

@@ -6,7 +6,10 @@ pub mod commands;
 pub mod entries;
 pub mod hashes;
 pub mod journal;
+pub mod laws;
 pub mod made;
+pub mod phase;
+pub mod refusals;
 pub mod secrets;
 pub mod user_map;
 
@@ -15,6 +18,8 @@ pub use entries::{Birth, Change, Entry, Order};
 pub use hashes::{app_id, prefixed_hash, wrap_key};
 pub use journal::Journal;
 pub use made::{boot_seed, made_bytes, made_discardable, made_key, made_nonce};
+pub use phase::Phase;
+pub use refusals::{Facts, refusal};
 pub use secrets::Secret;
 pub use user_map::{UserMap, defined_reply, fold};
 

@@ -1,14 +1,16 @@
 ghost use Rattle.std.specs.Prelude.{◌≡◌, option_map, option_copied, IfOk, OnOk};
 ghost use Rattle.std.specs.FinMap.{keys, entries, get};
 ghost use Rattle.journal_model.specs.declared.entries.Change.TheVariants.{Create as Created};
-ghost use Rattle.journal_model.specs.DefinedReply.{defined_reply_of, DefinedReplyIsVerdict};
+ghost use Rattle.journal_model.specs.Command.{user_in};
+ghost use Rattle.journal_model.specs.DefinedReply.{defined_reply_of};
 ghost use Rattle.journal_model.specs.Log.{log_after};
-ghost use Rattle.journal_model.specs.Machine.{log_of, map_of};
+ghost use Rattle.journal_model.specs.Machine.{is_present, log_of, map_of};
 ghost use Rattle.journal_model.specs.Users.{no_users, new_secrets, after_change};
 
 use crate::commands::{Command, Reply};
 use crate::entries::{Birth, Change, Entry};
 use crate::journal::Journal;
+use crate::refusals::{Facts, refusal};
 use crate::secrets::Secret;
 use sorted_map::SortedMap;
 use std::alloc::Global;
@@ -56,9 +58,8 @@ pub struct UserMap {
 }
 
 impl Model for UserMap {
-    ghost use Rattle.std.specs.FinMap.{from_sorted};
     ghost use Rattle.std.specs.Ordering.{nat_cmp};
-    ghost use Rattle.sorted_map.specs.Rows.{IsSorted};
+    ghost use Rattle.sorted_map.specs.Maps.{held};
     ghost use Rattle.journal_model.specs.RecordCode.{users_code};
     ghost use Rattle.journal_model.specs.Users.{Users};
 
@@ -66,9 +67,7 @@ impl Model for UserMap {
 
     ghost coded = { users_code };
 
-    ghost view = { λ users. from_sorted {R = nat_cmp} users.records.rows };
-
-    ghost invariant = { λ users. IsSorted nat_cmp users.records.rows };
+    ghost view = { λ users. held nat_cmp users.records };
 }
 
 impl UserMap {
@@ -161,16 +160,22 @@ fn follow(alloc: Global, log: &mut Vec<Change>, entry: &Entry) -> Result<(), NoM
 pub fn defined_reply(command: &Command, map: &UserMap) -> Option<Reply>
     ensures { result ≡ defined_reply_of command.now map.now }
 {
-    match command {
-        Command::Create { user } => map.birth(*user).map(|_| Reply::UserExists),
-        Command::Recover => None,
-    }
+    let facts = Facts {
+        present: is_present(command, map),
+        ready: false,
+    };
+    refusal(command, facts)
 }
 
-/// For a create, the defined reply is the verdict of each machine whose log makes the map.
-pub fn law_of_defined_reply()
-    ensures { DefinedReplyIsVerdict }
-{}
+/// Whether the user whom the command is for is there.
+fn is_present(command: &Command, map: &UserMap) -> bool
+    ensures { result ≡ is_present (user_in command.now) map.now }
+{
+    match command.user() {
+        Some(user) => map.birth(user).is_some(),
+        None => false,
+    }
+}
 
 #[cfg(test)]
 mod tests {

@@ -1,0 +1,34 @@
+-- Durable changes stay: in every later legal journal, and from the reply on that told of them.
+use Rattle.std.specs.Prelude.{◌≡◌, ℕ, ◌≤◌, List, ◌++◌, take, Option, Some, None, Contains}
+use Rattle.std.specs.FinMap as map
+use Rattle.journal_model.specs.declared.commands.Command.TheVariants.{Create}
+use Rattle.journal_model.specs.declared.commands.Reply.TheVariants.{Done}
+use Rattle.journal_model.specs.declared.entries.Change.{Change}
+use Rattle.journal_model.specs.declared.entries.Change.TheVariants.{Create as Created}
+use Rattle.journal_model.specs.declared.entries.Entry.{Entry}
+use Rattle.journal_model.specs.declared.entries.Entry.TheVariants.{Replied}
+use Rattle.journal_model.specs.Machine.{Machine, Running, machine_after, MayCome, IsLegal}
+
+abbrev pub durable_changes : Machine → List Change
+durable_changes machine = take machine.kept machine.log
+
+-- one list begins with another
+abbrev pub IsFront : {A : Type 0} → List A → List A → Type 0
+IsFront {A} front whole = (rest : List A) × (whole ≡ front ++ rest)
+
+-- the durable changes of one machine come first among those of another, which are no fewer
+pub record Survive (before after : Machine) : Type 0 where
+  pub fewer : before.kept ≤ after.kept
+  pub first : IsFront (durable_changes before) (durable_changes after)
+
+abbrev pub LawOfSurvival : Type 0
+LawOfSurvival = (entries more : List Entry) → IsLegal (entries ++ more)
+    → Survive (machine_after entries) (machine_after (entries ++ more))
+
+-- a create that was not refused and is told that it did its work has its change among the durable ones
+abbrev pub LawOfCreated : Type 0
+LawOfCreated = (entries : List Entry) (number user : ℕ) (running : Running) →
+    let machine = machine_after entries in
+    map.get machine.running number ≡ Some running → running.command ≡ Create user → running.verdict ≡ None
+    → MayCome entries machine (Replied number Done)
+    → Contains (durable_changes machine) (Created user (record { boot = machine.boot; index = running.index }))

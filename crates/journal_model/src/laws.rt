@@ -1,0 +1,17 @@
+ghost use Rattle.journal_model.specs.DefinedReply.{DefinedReplyIsVerdict};
+ghost use Rattle.journal_model.specs.Durable.{LawOfSurvival, LawOfCreated};
+
+/// For a create, the defined reply is the verdict of each machine whose log makes the map.
+pub fn law_of_defined_reply()
+    ensures { DefinedReplyIsVerdict }
+{}
+
+/// A durable change stays in every later legal journal, and what is durable grows by changes behind it.
+pub fn law_of_survival()
+    ensures { LawOfSurvival }
+{}
+
+/// A create that is told that it did its work has its change among the durable ones.
+pub fn law_of_created()
+    ensures { LawOfCreated }
+{}
