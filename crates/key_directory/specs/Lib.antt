@@ -1,4 +1,1 @@
-pub mod Images
-pub mod Laws
 pub mod Rehearsal
-pub mod StandsFor

@@ -7,7 +7,7 @@ use Rattle.tree_model.specs.declared.places.Class.TheVariants.{De, Ce}
 use Rattle.tree_model.specs.Dir.{Files}
 use Rattle.journal_model.specs.declared.entries.Birth.{Birth}
 use Rattle.journal_model.specs.Made.{key_of}
-use Rattle.key_directory.specs.StandsFor.{Meaning}
+use Rattle.user_world.specs.Meaning.{Meaning, Opening, opened_by}
 
 -- the key that a user of this birth is given, from the script's seed
 abbrev pub rehearsal_key : List ℕ → Class → ℕ → Birth → List ℕ
@@ -19,15 +19,20 @@ rehearsal_version = 48 ∷ []
 
 -- what follows, where the file `version` holds that byte alone
 abbrev pub if_version : Option (List ℕ) → Option (List ℕ) → Option (List ℕ)
-if_version None found = None
-if_version (Some []) found = None
 if_version (Some (byte ∷ [])) found = cond (byte == 48) found None
-if_version (Some (byte ∷ other ∷ bytes)) found = None
+if_version version found = None
 
 abbrev pub rehearsal_opens : Files → List ℕ → Option (List ℕ)
 rehearsal_opens files [] = if_version (map.get files Version) (map.get files EncryptedKey)
 rehearsal_opens files (byte ∷ bytes) = None
 
 -- the meaning of rehearsal directories under a script's seed
+abbrev pub rehearsal_opening : List ℕ → Opening
+rehearsal_opening seed = record {
+  opens = rehearsal_opens;
+  de_key = rehearsal_key seed De;
+  ce_key = rehearsal_key seed Ce;
+}
+
 abbrev pub rehearsal : List ℕ → Meaning
-rehearsal seed = record { opens = rehearsal_opens; de_key = rehearsal_key seed De; ce_key = rehearsal_key seed Ce }
+rehearsal seed = opened_by (rehearsal_opening seed)

@@ -1,0 +1,46 @@
+-- A change split into whose it is and what it is to that user, and what changes make of the user's record.
+use Rattle.std.specs.Prelude.{ℕ, ◌==◌, cond, List, [], ◌∷◌, Option, Some, None}
+use Rattle.tree_model.specs.Tree.{Kind, Create as Creates}
+use Rattle.journal_model.specs.declared.entries.Change.{Change}
+use Rattle.journal_model.specs.declared.entries.Change.TheVariants.{Create}
+use Rattle.journal_model.specs.Users.{Record, new_secrets, owner_of}
+use Rattle.user_world.specs.declared.changes.LocalChange.{LocalChange}
+use Rattle.user_world.specs.declared.changes.LocalChange.TheVariants.{Born}
+
+abbrev pub change_of : ℕ → LocalChange → Change
+change_of user (Born birth) = Create user birth
+
+abbrev pub local_of : Change → LocalChange
+local_of (Create user birth) = Born birth
+
+abbrev pub kind_of_change : LocalChange → Kind
+kind_of_change (Born birth) = Creates
+
+-- the user's record after a change
+abbrev pub known_after : Option Record → LocalChange → Option Record
+known_after known (Born birth) = Some (record { birth = birth; secrets = new_secrets })
+
+-- and after changes, in order
+abbrev pub known_through : Option Record → List LocalChange → Option Record
+known_through known [] = known
+known_through known (change ∷ changes) = known_through (known_after known change) changes
+
+-- the changes of one user
+abbrev pub changes_for : ℕ → List Change → List LocalChange
+changes_for user [] = []
+changes_for user (change ∷ changes) =
+    cond (owner_of change == user) (local_of change ∷ changes_for user changes) (changes_for user changes)
+
+-- a note of a change, if there is one: as a list before others, and as the kind of change
+abbrev pub if_noted : {A : Type 0} → Option LocalChange → (LocalChange → A) → List A → List A
+if_noted None to rest = rest
+if_noted (Some change) to rest = to change ∷ rest
+
+abbrev pub noted_kind : Option LocalChange → Option Kind
+noted_kind None = None
+noted_kind (Some change) = Some (kind_of_change change)
+
+-- the user's record once the change of a note was made
+abbrev pub known_with : Option Record → Option LocalChange → Option Record
+known_with known None = known
+known_with known (Some change) = known_after known change

@@ -1,0 +1,10 @@
+pub mod Changes
+pub mod Facts
+pub mod Images
+pub mod ImageLaws
+pub mod Laws
+pub mod Meaning
+pub mod OwnWorlds
+pub mod Timelines
+pub mod Turns
+pub mod Worlds
