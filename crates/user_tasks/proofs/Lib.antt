@@ -1,0 +1,2 @@
+pub mod CreateTurns
+pub mod Refuted

@@ -1,0 +1,4 @@
+pub mod Clearing
+pub mod Create
+pub mod Tasks
+pub mod WrongPlans
