@@ -31,7 +31,7 @@ uncut byte [] (d ∷ b) y la e = cc
 uncut byte (c ∷ a) [] y la e = let here : c ≡ byte = cc in la.0 here
 uncut byte (c ∷ a) (d ∷ b) y la e = let tail : a ≡ b ++ byte ∷ y = cc in uncut byte a b y la.1 tail
 
-Lacks-from_reads : (byte : ℕ) (bytes : List ℕ) → ((k : ℕ) → k < length bytes → get_or bytes k 0 ≢ byte)
+pub Lacks-from_reads : (byte : ℕ) (bytes : List ℕ) → ((k : ℕ) → k < length bytes → get_or bytes k 0 ≢ byte)
     → Lacks byte bytes
 Lacks-from_reads byte [] reads = tt
 Lacks-from_reads byte (b ∷ bytes) reads =
