@@ -1,373 +1,319 @@
--- The Book's own state after each of its steps, from what its parts' calls leave.
-use Rattle.std.proofs.Common.{◌≡◌, ◌≢◌, ℕ, ◌+◌, ◌<◌, ◌^◌, ◌==◌, ◌↔◌, IsTrue, eq-eqb, get_or, Bool, false, List, [], ◌∷◌, ◌++◌, length, take, refl, sym, ap, ◌∙◌, subst, arith}
-use Rattle.std.specs.Prelude.{Option, Some, None, IsSome, IsNone, IfSome, IsSomeAnd, is_some, min, slice_get, unwrap_or, Contains, Ok}
+-- What each of a Book's own functions leaves, over any device: a turn, a stop and a restart, each of which keeps it whole.
+use Rattle.std.proofs.Common.{◌≡◌, ◌≢◌, ℕ, ◌+◌, ◌-◌, ◌^◌, ◌<◌, ◌≤◌, Bool, List, [], ◌∷◌, ◌++◌, length, take, min, refl, sym, ap, ◌∙◌, subst, arith}
+use Rattle.std.specs.Prelude.{Option, Some, Result, Ok, Err, is_some, IsNone, IsSomeAnd, OnOk, OnErr, slice_get}
 use Rattle.std.specs.FinMap as map
-use Rattle.std.specs.FinMap.Entries.{find, put}
-use borrow.Author.Tests.{eqb-true}
-use Rattle.sorted_map.specs.Rows.{Sorted, IsSorted, without}
-use Rattle.sorted_map.proofs.Rows.{get-rows, insert-rows, remove-rows, empty-rows}
-use Rattle.tree_model.specs.declared.places.Place.{Place}
-use Rattle.tree_model.specs.Order.{place_cmp}
+use Rattle.tree_model.specs.declared.memory.NoMemory.{NoMemory}
+use Rattle.tree_model.specs.declared.ops.Cut.{Cut}
 use Rattle.tree_model.specs.Disk.{Disk, view, stopped}
 use Rattle.tree_model.specs.Counted.{Counts, IsCounted}
 use Rattle.journal_model.specs.declared.commands.Actor.{Actor}
+use Rattle.journal_model.specs.declared.commands.Actor.TheVariants.{Boot}
 use Rattle.journal_model.specs.declared.commands.Command.{Command}
+use Rattle.journal_model.specs.declared.commands.Command.TheVariants.{Recover}
 use Rattle.journal_model.specs.declared.commands.Reply.{Reply}
 use Rattle.journal_model.specs.declared.entries.Entry.{Entry}
 use Rattle.journal_model.specs.declared.entries.Entry.TheVariants.{Began, Stopped, Restarted, Replied}
-use Rattle.journal_model.specs.Actor.{actor_cmp, actor_total, actor_exact}
-use Rattle.journal_model.specs.Command.{actor_of}
-use Rattle.vold_book.specs.declared.power.Phase.{Phase}
-use Rattle.vold_book.specs.declared.power.Phase.TheVariants.{Down, Halted}
-use Rattle.vold_book.specs.declared.power.Power.{Power}
-use Rattle.vold_book.specs.declared.tasks.Recovery.{Recovery}
-use Rattle.journal_model.specs.declared.entries.Order.{Order}
 use Rattle.journal_model.specs.declared.entries.Order.TheVariants.{Stop}
-use Rattle.journal_model.specs.declared.commands.Actor.TheVariants.{Boot}
-use Rattle.journal_model.specs.declared.commands.Command.TheVariants.{Recover as RecoverCommand}
-use Rattle.journal_model.specs.Machine.{numbers_begun}
-use Rattle.tree_model.specs.declared.ops.Cut.{Cut}
-use Rattle.tree_model.specs.Tree.{changes_in}
-use Rattle.vold_book.specs.Pending.{count_changes, pending_after, power_after}
-use Rattle.vold_book.specs.Powered.{TakesTurn}
-use Rattle.vold_book.specs.Recover.{IsFirstLeft, IsRecovered}
-use Rattle.vold_book.specs.Stops.{survivors, IsStopped, IsRestarted}
-use Rattle.vold_book.proofs.Noted.{log-short, length-changes_made, changes_made-take, count-changes_made}
-use Rattle.vold_book.proofs.Halts.{changes-take}
-use Rattle.vold_book.proofs.Numbers.{contains-here, waits-within, few-begun}
-use Rattle.vold_book.specs.declared.tasks.Create.{Create}
+use Rattle.journal_model.specs.declared.phase.Phase.TheVariants.{Down, Halted}
+use Rattle.journal_model.specs.Actor.{actor_total, actor_exact}
+use Rattle.journal_model.specs.Command.{actor_of}
+use Rattle.journal_model.specs.Refusals.{refusal_of}
+use Rattle.journal_model.specs.Machine.{TakesTurn, numbers_begun, phase_after}
+use Rattle.user_world.specs.declared.changes.LocalChange.{LocalChange}
+use Rattle.user_world.specs.declared.turns.Call.{Call}
+use Rattle.user_world.specs.declared.turns.Next.TheVariants.{Call as CallNext, Reply as ReplyNext}
+use Rattle.user_world.specs.Timelines.{survivors}
+use Rattle.docket.specs.Docket.{IsFirst, TakesFirst, empty_docket, after_begin, begun_by, with_command as docket_with, with_first_command}
+use Rattle.docket.proofs.Accounts.{first-given}
+use Rattle.vold_book.specs.declared.opened.Opened.{Opened}
 use Rattle.vold_book.specs.declared.tasks.Running.{Running}
 use Rattle.vold_book.specs.declared.tasks.Task.{Task}
-use Rattle.vold_book.specs.declared.tasks.Task.TheVariants.{Create as Creating, Recover as Recovering, Reply as Replying}
-use Rattle.vold_book.specs.Begin.{first_task}
-use Rattle.vold_book.specs.Book.{BookState, book_state, IsWhole, max_commands}
-use Rattle.vold_book.specs.Numbers.{IsQueue, queue_of}
-use Rattle.vold_book.specs.Places.{places_of, IsFirstInTheWay}
-use Rattle.vold_book.specs.Calls.{Fits, IsMade, as_answer}
-use Rattle.vold_book.specs.Create.{call_of, entry_of}
-use Rattle.vold_book.specs.declared.calls.Call.{Call}
-use Rattle.vold_book.specs.Turns.{new_power, new_book, with_command, Begins, after_reply, phase_after, task_after, task_recovered, entries_after, entries_recovered, power_recovered, pending_recovered, places_made, is_change, Calls, Recovers}
-use Rattle.vold_book.specs.Waiting.{waiting_of, IsFirst, TakesFirst}
-use Rattle.vold_book.proofs.Whole.{whole-given, whole-begun, whole-replied, whole-called, whole-recovered, call-fits, all-changes}
+use Rattle.vold_book.specs.Calls.{Fits, IsMade, as_answer, entry_of}
+use Rattle.vold_book.specs.Parts.{LedgerState, TrackerState, no_ledger, new_tracker, ledger_with, noted, count_changes}
+use Rattle.vold_book.specs.Places.{PlaceMap}
+use Rattle.vold_book.specs.State.{Docket, BookState, Plain, Device, seen, machine_of, timeline, ground_of}
+use Rattle.vold_book.specs.Steps.{RepliesTo}
+use Rattle.vold_book.specs.Stops.{after_stop, IsStopped, after_restart, IsRestarted}
+use Rattle.vold_book.specs.Tasks.{Plans}
+use Rattle.vold_book.specs.Turns.{opened_at, new_book, with_command, Begins, FirstTask, facts_in, Called, Makes, made_entry, task_after, after_reply}
+use Rattle.vold_book.specs.Whole.{Whole, IsWhole, max_commands}
+use Rattle.vold_book.proofs.Begun.{whole-begun}
+use Rattle.vold_book.proofs.Called.{call-fits, whole-called}
+use Rattle.vold_book.proofs.Charged.{begun-charged, called-charged, replied-charged, stopped-charged, restarted-charged}
+use Rattle.vold_book.proofs.Moves.{some_same}
+use Rattle.vold_book.proofs.Numbers.{few-begun}
+use Rattle.vold_book.proofs.Replied.{whole-replied}
+use Rattle.vold_book.proofs.Shown.{call-falls, reply-told, due-none}
+use Rattle.vold_book.proofs.StepsMade.{all-changes}
+use Rattle.vold_book.proofs.Stopped.{whole-stopped, whole-given, whole-restarted, whole-opened}
+use Rattle.vold_book.proofs.Tracked.{log-short, count-kept}
 
-some_same : {A : Type 0} (a b : A) → Some a ≡ Some b → a ≡ b
-some_same a b e = cc
+-- the first of a queue begins
+pub begun-book : {D : Type 0} (book : BookState D) (actor : Actor) (first number : ℕ) (command : Command) (task : Task)
+    (boot index : ℕ) (ledger ledger' : LedgerState) (docket' : Docket)
+    → TakesFirst book.docket docket' actor number (record { number = first; task = task })
+    → IsSomeAnd (map.get book.docket.waiting actor) (λ queue. IsFirst queue first)
+    → slice_get book.docket.commands first ≡ Some command
+    → boot ≡ book.tracker.boot → index ≡ begun_by book.docket actor
+    → FirstTask command (record { boot = boot; index = index }) (refusal_of command (facts_in book command)) task
+    → ledger ≡ book.ledger → ledger' ≡ record ledger { entries = ledger.entries ++ Began first actor command ∷ [] }
+    → Begins book (record book { ledger = ledger'; docket = docket' }) actor
+begun-book book actor first number command task boot index ledger ledger' docket' takes is_first given same_boot same_index
+    first_task same entered =
+    let number_is : number ≡ first = subst (λ found. IsSomeAnd found (λ queue. IsFirst queue first)) takes.1 is_first in record {
+      number = first;
+      numbers = takes.0;
+      command = command;
+      task = task;
+      queued = takes.1 ∙ ap (λ n. Some (n ∷ takes.0)) number_is;
+      given = given;
+      first = subst (λ b. FirstTask command (record { boot = b; index = begun_by book.docket actor })
+          (refusal_of command (facts_in book command)) task) same_boot
+          (subst (λ n. FirstTask command (record { boot = boot; index = n }) (refusal_of command (facts_in book command)) task)
+          same_index first_task);
+      state = ap (λ l. record book { ledger = l; docket = docket' })
+          (entered ∙ ap {A = LedgerState} (λ l. record l { entries = l.entries ++ Began first actor command ∷ [] }) same)
+          ∙ ap (λ d. record book {
+            ledger = record book.ledger { entries = book.ledger.entries ++ Began first actor command ∷ [] };
+            docket = d;
+          }) takes.2;
+    }
 
-head_same : (n m : ℕ) (ns ms : List ℕ) → Some (n ∷ ns) ≡ Some (m ∷ ms) → n ≡ m
-head_same n m ns ms e = cc
+-- the call of a task was made
+pub called-book : {D : Type 0} (disk : D → Disk) (counts : D → Counts) (book : BookState D) (actor : Actor) (number : ℕ) (call : Call)
+    (change : Option LocalChange) (then : Task) (called : Called D) (ledger ledger' : LedgerState) (entry : Option Entry)
+    (tracker tracker' : TrackerState) (changes : Bool) (task : Task) (docket' : Docket)
+    → IsMade (disk book.tree) (disk called.tree) book.places called.places call (Ok called.made)
+    → IsCounted (counts book.tree) (counts called.tree) (as_answer (Ok called.made))
+    → ledger ≡ book.ledger → ledger' ≡ ledger_with ledger actor entry
+    → entry ≡ made_entry called.made (entry_of number call change)
+    → tracker ≡ book.tracker → tracker' ≡ noted called.made call changes tracker → changes ≡ is_some change
+    → docket' ≡ record book.docket { running = map.insert book.docket.running actor (record { number = number; task = task }) }
+    → task ≡ task_after called.made then
+    → Makes disk counts book (record book {
+      tree = called.tree;
+      ledger = ledger';
+      docket = docket';
+      tracker = tracker';
+      places = called.places;
+    }) actor number call change then
+called-book disk counts book actor number call change then called ledger ledger' entry tracker tracker' changes task docket' is_made
+    counted same_ledger in_ledger is_entry same_tracker in_tracker is_change in_docket is_task = record {
+      called = called;
+      is_made = is_made;
+      counted = counted;
+      state = λ i. record book {
+        tree = called.tree;
+        ledger = (in_ledger ∙ ap (λ l. ledger_with l actor entry) same_ledger ∙ ap (ledger_with book.ledger actor) is_entry) i;
+        docket = (in_docket ∙ ap (λ t. record book.docket {
+          running = map.insert book.docket.running actor (record { number = number; task = t });
+        }) is_task) i;
+        tracker = (in_tracker ∙ ap (noted called.made call changes) same_tracker
+            ∙ ap (λ c. noted called.made call c book.tracker) is_change) i;
+        places = called.places;
+      };
+    }
 
-module _ {D : Type 0} (disk : D → Disk) where
-  -- what waits for an actor is a queue with something in it
-  pub queue-some : (book : BookState D) (actor : Actor) → IsWhole disk book → IsSome (map.get book.waiting actor) → IsSomeAnd (map.get book.waiting actor) (λ queue. queue ≢ [])
-  queue-some book actor whole there =
-      elim (map.get book.waiting actor) as (λ found. IfSome found (IsQueue book.commands (numbers_begun book.entries) actor) → IsSome found → IsSomeAnd found (λ queue. queue ≢ [])) [
-        | None ↦ λ h s. absurd (nothing s)
-        | Some queue ↦ λ h s. h.some
-      ] (whole.parts.numbers.queues actor) there
-    where
-      nothing : IsSome {T = List ℕ} None → ⊥
-      nothing e = cc
+-- a reply was given
+pub replied-book : {D : Type 0} (book : BookState D) (actor : Actor) (it : Running) (reply : Reply) (command : Command)
+    (ledger ledger' : LedgerState) (docket' : Docket) (tracker' : TrackerState)
+    → slice_get book.docket.commands it.number ≡ Some command → ledger ≡ book.ledger
+    → ledger' ≡ record ledger { entries = ledger.entries ++ Replied it.number reply ∷ [] }
+    → docket' ≡ record book.docket { running = map.remove book.docket.running actor }
+    → tracker' ≡ record book.tracker { phase = phase_after book.tracker.phase command reply }
+    → RepliesTo book (record book { ledger = ledger'; docket = docket'; tracker = tracker' }) actor it reply
+replied-book book actor it reply command ledger ledger' docket' tracker' given same entered ended replied = record {
+  command = command;
+  given = given;
+  state = λ i. record book {
+    ledger = (entered ∙ ap {A = LedgerState} (λ l. record l { entries = l.entries ++ Replied it.number reply ∷ [] }) same) i;
+    docket = ended i;
+    tracker = replied i;
+  };
+}
 
-  -- its first number was given out
-  pub first-within : (book : BookState D) (actor : Actor) (number : ℕ) → IsWhole disk book → IsSomeAnd (map.get book.waiting actor) (λ queue. IsFirst queue number) → number < length book.commands
-  first-within book actor number whole first =
-      elim (map.get book.waiting actor) as (λ found. IfSome found (IsQueue book.commands (numbers_begun book.entries) actor) → IsSomeAnd found (λ queue. IsFirst queue number) → number < length book.commands) [
-        | None ↦ λ h f. absurd f
-        | Some queue ↦ λ h f. waits-within book.commands (numbers_begun book.entries) actor number queue h.wait (among queue f)
-      ] (whole.parts.numbers.queues actor) first
-    where
-      among : (queue : List ℕ) → IsFirst queue number → Contains queue number
-      among [] f = absurd f
-      among (n ∷ ns) f = subst (Contains (n ∷ ns)) f (contains-here n ns)
+module _ {D : Type 0} (disk : D → Disk) (counts : D → Counts) (book : BookState D) (whole : IsWhole disk counts book) where
+  abbrev plain : Plain
+  plain = seen disk counts book
 
-  -- an actor's count of commands has room to rise
-  pub count-fits : (book : BookState D) (actor : Actor) → IsWhole disk book → unwrap_or (map.get book.begun actor) 0 + 1 < 2 ^ 32
-  count-fits book actor whole =
-      let counted = whole.parts.counts actor in
-      let begun = few-begun actor book.entries book.commands book.waiting whole.parts.numbers in
-      let few = whole.parts.few in
-      omega (arith, counted, begun, few)
+  pub few-begin : (actor : Actor) → begun_by book.docket actor < 2 ^ 32 - 1
+  few-begin actor =
+      let few = few-begun book.docket book.ledger.entries (machine_of plain) actor whole.numbers in
+      let all = whole.numbers.few in
+      omega (arith, few, all)
 
-  -- all changes have room in a count
-  pub changes-fit : (book : BookState D) → IsWhole disk book → length book.entries < 2 ^ 64 → book.power.durable + count_changes book.pending < 2 ^ 64
-  changes-fit book whole few =
-      let all = all-changes disk book whole in
-      let short = log-short book.entries in
+  pub begins-whole : (after : BookState D) (actor : Actor) → IsNone (map.get book.docket.running actor)
+      → TakesTurn book.tracker.phase actor → Begins book after actor → IsWhole disk counts after
+  begins-whole after actor idle takes begins =
+      let first = first-given actor_total actor_exact actor_of book.docket (numbers_begun book.ledger.entries)
+      whole.numbers.accounted actor begins.number begins.numbers begins.queued in
+      let own : actor_of begins.command ≡ actor =
+      ap actor_of (some_same begins.command first.0 (sym begins.given ∙ first.1)) ∙ first.2 in
+      let begins' : Begins plain (seen disk counts after) actor = record {
+        number = begins.number;
+        numbers = begins.numbers;
+        command = begins.command;
+        task = begins.task;
+        queued = begins.queued;
+        given = begins.given;
+        first = begins.first;
+        state = ap (seen disk counts) begins.state;
+      } in
+      subst (λ b. IsWhole disk counts b) (sym begins.state)
+      (whole-begun plain actor (seen disk counts after) whole idle takes begins' own
+      (begun-charged plain whole.charged actor begins.number begins.command begins.numbers _ _ begins.task
+      (after_begin book.docket actor begins.numbers (record { number = begins.number; task = begins.task })) begins.first refl))
+
+  module _ (actor : Actor) (it : Running) where
+    module _ (call : Call) (change : Option LocalChange) (then : Task) (plans : Plans plain actor it (CallNext call change then)) where
+      pub plan-fits : Fits (view (disk book.tree)) call
+      plan-fits = call-fits plain actor it call change then whole plans
+
+      pub calls-whole : (after : BookState D) → Makes disk counts book after actor it.number call change then
+          → IsWhole disk counts after
+      calls-whole after makes =
+          let called : Called Device = record {
+            tree = record { disk = disk makes.called.tree; counts = counts makes.called.tree };
+            places = makes.called.places;
+            made = makes.called.made;
+          } in
+          subst (λ b. IsWhole disk counts b) (sym makes.state)
+          (whole-called plain actor it call change then whole plans called makes.is_made
+          (called-charged plain whole.charged actor it.number call change then called makes.counted
+          (due-none then (call-falls (ground_of plain) plans.on.began call change it.task then plans.shows).no_fault)))
+
+    pub replies-whole : (reply : Reply) → Plans plain actor it (ReplyNext reply) → (after : BookState D)
+        → RepliesTo book after actor it reply → IsWhole disk counts after
+    replies-whole reply plans after replies =
+        let began = plans.on.began in
+        let given = (whole.numbers.given it.number began plans.on.at).given in
+        let same : began.command ≡ replies.command = some_same began.command replies.command (sym given ∙ replies.given) in
+        subst (λ b. IsWhole disk counts b) (sym (replies.state
+        ∙ ap (λ c. after_reply book actor it.number c reply) (sym same)))
+        (whole-replied plain actor it reply whole plans
+        (replied-charged plain whole.charged actor it began.command reply plans.runs
+        (reply-told (ground_of plain) began reply it.task plans.on.stands plans.shows)))
+
+  -- the changes that a device's calls made can be counted
+  pub changes-fit : length book.ledger.entries < 2 ^ 64 → book.tracker.durable + count_changes book.tracker.pending < 2 ^ 64
+  changes-fit few =
+      let all = all-changes plain whole in
+      let short = log-short book.ledger.entries in
       omega (arith, all, short, few)
 
-  pub changes-fit-at : (book : BookState D) (entries : List Entry) (pending : List Bool) → IsWhole disk book → entries ≡ book.entries → length entries < 2 ^ 64 → pending ≡ book.pending → book.power.durable + count_changes pending < 2 ^ 64
-  changes-fit-at book entries pending whole same few same_pending =
-      let fits = changes-fit book whole (let e = ap length same in omega (arith, e, few)) in
-      let p = ap count_changes same_pending in
-      omega (arith, fits, p)
+  pub given-whole : (command : Command) → length book.docket.commands < max_commands → IsWhole disk counts (with_command book command)
+  given-whole command few = whole-given plain whole command few
 
-  -- a stop keeps the changes of the operations that it keeps
-  pub survive : (book : BookState D) (keep : ℕ) → IsWhole disk book → book.power.durable + count_changes (take (min keep (length book.pending)) book.pending) ≡ survivors disk book keep
-  survive book keep whole =
-      let tree = disk book.tree in
-      let durable = whole.agrees.durable in
-      let lengths : length book.pending ≡ length tree.pending = ap length whole.pending ∙ length-changes_made tree.stable tree.pending in
-      let front : count_changes (take (min keep (length book.pending)) book.pending) ≡ changes_in tree.stable (take (min keep (length tree.pending)) tree.pending) =
-      ap (λ n. count_changes (take (min keep n) book.pending)) lengths ∙ ap (λ ps. count_changes (take (min keep (length tree.pending)) ps)) whole.pending
-      ∙ ap count_changes (changes_made-take tree.stable (min keep (length tree.pending)) tree.pending) ∙ count-changes_made tree.stable (take (min keep (length tree.pending)) tree.pending) in
-      omega (arith, durable, front)
+  -- a command was given out, or memory was missing
+  pub enqueued-whole : (command : Command) (actor : Actor) (docket' : Docket) (result : Result ℕ NoMemory)
+      → length book.docket.commands < max_commands → actor ≡ actor_of command
+      → OnOk result (docket' ≡ docket_with book.docket actor command) → OnErr result (docket' ≡ book.docket)
+      → IsWhole disk counts (record book { docket = docket' })
+  enqueued-whole command actor docket' (Ok number) few own queued refused =
+      subst (λ d. IsWhole disk counts (record book { docket = d })) (sym (queued ∙ ap (λ a. docket_with book.docket a command) own))
+      (given-whole command few)
+  enqueued-whole command actor docket' (Err want) few own queued refused =
+      subst (λ d. IsWhole disk counts (record book { docket = d })) (sym refused) whole
 
-  pub kept-fits : (book : BookState D) (entries : List Entry) (slice : List Bool) (keep kept : ℕ) → IsWhole disk book → entries ≡ book.entries → length entries < 2 ^ 64 → slice ≡ book.pending → kept ≡ count_changes (take (min keep (length slice)) slice)
-      → book.power.durable + kept < 2 ^ 64
-  kept-fits book entries slice keep kept whole same few same_slice is_kept =
-      let tree = disk book.tree in
-      let survived = ap (λ ps. count_changes (take (min keep (length ps)) ps)) same_slice in
-      let all = survive book keep whole in
-      let front = changes-take tree.stable (min keep (length tree.pending)) tree.pending in
-      let counted = whole.parts.images.counted in
-      let short = log-short book.entries in
-      let e = ap length same in
-      omega (arith, survived, all, front, counted, short, e, few, is_kept)
+  pub stops-whole : (after : BookState D) (cut : Cut) → book.tracker.phase ≢ Halted → IsStopped disk counts book after cut
+      → IsWhole disk counts after
+  stops-whole after cut running stops =
+      let left = stopped (disk book.tree) cut.keep cut.fills in
+      let kept = survivors (timeline (disk book.tree) (machine_of book)) cut.keep in
+      let halted : Whole (after_stop plain (record { disk = left; counts = counts book.tree }) cut kept) =
+      whole-stopped plain whole cut (counts book.tree) running (stopped-charged plain whole.charged left cut kept) in
+      subst (λ b. IsWhole disk counts b) (sym stops.state)
+      (subst (λ d. Whole (after_stop plain (record { disk = d; counts = counts after.tree }) cut kept)) (sym stops.left)
+      (subst (λ c. Whole (after_stop plain (record { disk = left; counts = c }) cut kept)) (sym stops.same_counts) halted))
 
-  none_of : {A : Type 0} (found : Option A) → IsNone found → found ≡ None
-  none_of None e = refl
-  none_of (Some r) e = cc
+  pub restarts-whole : (after : BookState D) (level : ℕ) → book.tracker.phase ≡ Halted → level ≡ book.tracker.level
+      → length book.docket.commands < max_commands → IsRestarted disk counts book after level → IsWhole disk counts after
+  restarts-whole after level halted same_level few restarts =
+      let again : Whole (after_restart plain (record { disk = disk book.tree; counts = counts book.tree }) level) =
+      whole-restarted plain whole (counts book.tree) level halted same_level few (restarted-charged plain whole.charged level) in
+      subst (λ b. IsWhole disk counts b) (sym restarts.state)
+      (subst (λ d. Whole (after_restart plain (record { disk = d; counts = counts after.tree }) level)) (sym restarts.same_disk)
+      (subst (λ c. Whole (after_restart plain (record { disk = disk book.tree; counts = c }) level)) (sym restarts.same_counts) again))
 
-  -- a Book stays whole when a command begins
-  pub begins-whole : (before after : BookState D) (actor : Actor) → Begins before after actor → IsWhole disk before → IsNone (map.get before.running actor) → TakesTurn before.power.phase actor → IsWhole disk after
-  begins-whole before after actor begins whole idle takes =
-      subst (IsWhole disk) (sym begins.state) (whole-begun disk before actor begins.number begins.numbers begins.command whole begins.queued begins.given (none_of (map.get before.running actor) idle) takes)
+-- a Book as it is opened
+pub opened-whole : {D : Type 0} (disk : D → Disk) (counts : D → Counts) (tree : D) (opened : Opened) (seed : List ℕ)
+    → disk tree ≡ record { stable = map.empty; pending = [] } → opened.calls ≡ (counts tree).calls
+    → opened.faults ≡ (counts tree).faults → length seed ≤ 64
+    → (ledger : LedgerState) (docket : Docket) (tracker : TrackerState) (places : PlaceMap) → ledger ≡ no_ledger
+    → docket ≡ empty_docket → tracker ≡ new_tracker → places ≡ map.empty
+    → IsWhole disk counts (record {
+      tree = tree;
+      opened = opened;
+      seed = seed;
+      ledger = ledger;
+      docket = docket;
+      tracker = tracker;
+      places = places;
+    })
+opened-whole disk counts tree opened seed empty calls faults short ledger docket tracker places no_entries no_commands begins
+    no_places =
+    let is_opened : opened ≡ opened_at (counts tree) = λ i. record { calls = calls i; faults = faults i } in
+    let plain : Whole (new_book (record { disk = record { stable = map.empty; pending = [] }; counts = counts tree })
+    (opened_at (counts tree)) seed) = whole-opened (counts tree) seed short in
+    subst Whole (λ i. record {
+      tree = record { disk = sym empty i; counts = counts tree };
+      opened = sym is_opened i;
+      seed = seed;
+      ledger = sym no_entries i;
+      docket = sym no_commands i;
+      tracker = sym begins i;
+      places = sym no_places i;
+    }) plain
 
--- the state after a command began
-pub begun-state : {D : Type 0} (tree : D) (seed : List ℕ) (entries : List Entry) (callers : List Actor) (orders : List Order) (commands : List Command) (waiting : Sorted Actor (List ℕ)) (running : Sorted Actor Running) (begun : Sorted Actor ℕ) (places : Sorted Place (Unit {0})) (power : Power) (pending : List Bool) (entries' : List Entry) (waiting' : Sorted Actor (List ℕ)) (running1 running' : Sorted Actor Running) (begun1 begun' : Sorted Actor ℕ)
-    (actor : Actor) (number taken index : ℕ) (command : Command) (task : Task)
-    → IsSomeAnd (map.get (waiting_of waiting) actor) (λ queue. IsFirst queue number) → TakesFirst (waiting_of waiting) (waiting_of waiting') actor taken
-    → slice_get commands number ≡ Some command → index ≡ unwrap_or (map.get (map.from_sorted {R = actor_cmp} begun.rows) actor) 0
-    → task ≡ first_task power.phase (places_of places) command (record { boot = power.boot; index = index })
-    → running1.rows ≡ running.rows → IsSorted actor_cmp running1.rows → running'.rows ≡ put actor_cmp actor (record { number = number; task = task }) running1.rows
-    → begun1.rows ≡ begun.rows → IsSorted actor_cmp begun1.rows → begun'.rows ≡ put actor_cmp actor (index + 1) begun1.rows
-    → entries' ≡ entries ++ Began number actor command ∷ []
-    → Begins (book_state tree seed entries callers orders commands waiting running begun places power pending) (book_state tree seed entries' callers orders commands waiting' running' begun' places power pending) actor
-begun-state {D} tree seed entries callers orders commands waiting running begun places power pending entries' waiting' running1 running' begun1 begun' actor number taken index command task first takes given is_index is_task
-    same_running sorted_running put_running same_begun sorted_begun put_begun is_entries =
-    let numbers = takes.0 in
-    let same_number : taken ≡ number = first_taken (map.get (waiting_of waiting) actor) first takes.1 in
-    let queued : map.get (waiting_of waiting) actor ≡ Some (number ∷ numbers) = takes.1 ∙ ap (λ n. Some (n ∷ numbers)) same_number in
-    let is_running : map.from_sorted {R = actor_cmp} running'.rows ≡ map.insert (map.from_sorted running.rows) actor (record { number = number; task = first_task power.phase (places_of places) command (record { boot = power.boot; index = unwrap_or (map.get (map.from_sorted {R = actor_cmp} begun.rows) actor) 0 }) }) =
-    ap (λ rows. map.from_sorted rows) put_running ∙ insert-rows actor_total running1.rows sorted_running actor (record { number = number; task = task })
-    ∙ ap (λ rows. map.insert (map.from_sorted rows) actor (record { number = number; task = task })) same_running
-    ∙ ap (λ t. map.insert (map.from_sorted running.rows) actor (record { number = number; task = t })) (is_task ∙ ap (λ i. first_task power.phase (places_of places) command (record { boot = power.boot; index = i })) is_index) in
-    let is_begun : map.from_sorted {R = actor_cmp} begun'.rows ≡ map.insert (map.from_sorted begun.rows) actor (unwrap_or (map.get (map.from_sorted {R = actor_cmp} begun.rows) actor) 0 + 1) =
-    ap (λ rows. map.from_sorted rows) put_begun ∙ insert-rows actor_total begun1.rows sorted_begun actor (index + 1)
-    ∙ ap (λ rows. map.insert (map.from_sorted rows) actor (index + 1)) same_begun ∙ ap (λ i. map.insert (map.from_sorted begun.rows) actor (i + 1)) is_index in
-    record {
-      number = number;
-      numbers = numbers;
-      command = command;
-      queued = queued;
-      given = given;
-      state = λ i. record { tree = tree; seed = seed; entries = is_entries i; callers = callers; orders = orders; commands = commands; waiting = takes.2 i; running = is_running i; begun = is_begun i; places = places_of places; power = power; pending = pending };
-    }
-  where
-    first_taken : (found : Option (List ℕ)) → IsSomeAnd found (λ queue. IsFirst queue number) → found ≡ Some (taken ∷ takes.0) → taken ≡ number
-    first_taken None f e = absurd f
-    first_taken (Some []) f e = absurd f
-    first_taken (Some (n ∷ ns)) f e = sym (head_same n taken ns takes.0 e) ∙ f
-
--- the same turn, seen from the Book as the caller sees it
-pub begins-from : {D : Type 0} (before before' after : BookState D) (actor : Actor) → before ≡ before' → Begins before after actor → Begins before' after actor
-begins-from before before' after actor same begins = subst (λ b. Begins b after actor) same begins
-
--- a copy of what was read at an index
-pub read_copy : (commands : List Command) (i : ℕ) (copied read : Command) → copied ≡ read → read ≡ get_or commands i read → copied ≡ get_or commands i copied
-read_copy commands i copied read same at = same ∙ at ∙ ap (get_or commands i) (sym same)
-
--- the state after a reply
-pub replied-state : {D : Type 0} (tree : D) (seed : List ℕ) (entries : List Entry) (callers : List Actor) (orders : List Order) (commands : List Command) (waiting : Sorted Actor (List ℕ)) (running : Sorted Actor Running) (begun : Sorted Actor ℕ) (places : Sorted Place (Unit {0})) (power : Power) (pending : List Bool) (entries' : List Entry) (running' : Sorted Actor Running) (phase : Phase)
-    (actor : Actor) (number : ℕ) (reply : Reply) → entries' ≡ entries ++ Replied number reply ∷ [] → IsSorted actor_cmp running.rows → running'.rows ≡ without actor_cmp actor running.rows → phase ≡ phase_after power.phase reply
-    → book_state tree seed entries' callers orders commands waiting running' begun places (record power { phase = phase }) pending ≡ after_reply (book_state tree seed entries callers orders commands waiting running begun places power pending) actor number reply
-replied-state tree seed entries callers orders commands waiting running begun places power pending entries' running' phase actor number reply is_entries sorted rows is_phase =
-    let is_running : map.from_sorted {R = actor_cmp} running'.rows ≡ map.remove (map.from_sorted running.rows) actor = ap (λ rs. map.from_sorted rs) rows ∙ remove-rows actor_total actor_exact running.rows sorted actor in
-    λ i. record { tree = tree; seed = seed; entries = is_entries i; callers = callers; orders = orders; commands = commands; waiting = waiting_of waiting; running = is_running i; begun = map.from_sorted begun.rows; places = places_of places; power = record power { phase = is_phase i }; pending = pending }
-
--- a running command that was put back, with its next task
-put-running : (running running1 running' : Sorted Actor Running) (actor : Actor) (number : ℕ) (task task' : Task) → running1.rows ≡ running.rows → IsSorted actor_cmp running1.rows → running'.rows ≡ put actor_cmp actor (record { number = number; task = task }) running1.rows
-    → task ≡ task' → map.from_sorted {R = actor_cmp} running'.rows ≡ map.insert (map.from_sorted running.rows) actor (record { number = number; task = task' })
-put-running running running1 running' actor number task task' same_running sorted put is_task =
-    ap (λ rows. map.from_sorted rows) put ∙ insert-rows actor_total running1.rows sorted actor (record { number = number; task = task })
-    ∙ ap (λ rows. map.insert (map.from_sorted rows) actor (record { number = number; task = task })) same_running ∙ ap (λ t. map.insert (map.from_sorted running.rows) actor (record { number = number; task = t })) is_task
-
--- the state after a create's call
-pub called-state : {D : Type 0} (disk : D → Disk) (counts : D → Counts) (tree : D) (seed : List ℕ) (entries : List Entry) (callers : List Actor) (orders : List Order) (commands : List Command) (waiting : Sorted Actor (List ℕ)) (running : Sorted Actor Running) (begun : Sorted Actor ℕ) (places : Sorted Place (Unit {0})) (power : Power) (pending : List Bool) (tree' : D) (entries1 entries' : List Entry) (callers1 callers' : List Actor) (running1 running' : Sorted Actor Running) (places1 places' : Sorted Place (Unit {0})) (power' : Power) (pending1 pending' : List Bool)
-    (actor : Actor) (number : ℕ) (create : Create) (in_the_way : Option Place) (call : Call) (made change : Bool) (task : Task)
-    → IsFirstInTheWay (places_of places) create.user in_the_way → call ≡ call_of seed create in_the_way → IsMade (disk tree) (disk tree') call (Ok made) → IsCounted (counts tree) (counts tree') (as_answer (Ok made))
-    → entries1 ≡ entries → entries' ≡ entries_after made entries1 (entry_of create number) → callers1 ≡ callers → callers' ≡ callers1 ++ actor ∷ []
-    → running1.rows ≡ running.rows → IsSorted actor_cmp running1.rows → running'.rows ≡ put actor_cmp actor (record { number = number; task = task }) running1.rows
-    → places1.rows ≡ places.rows → places_of places' ≡ places_made made (places_of places1) call → task ≡ task_after made create in_the_way
-    → pending1 ≡ pending → change ≡ is_change (entry_of create number) → power' ≡ power_after made power pending1 call → pending' ≡ pending_after made pending1 call change
-    → Calls disk counts (book_state tree seed entries callers orders commands waiting running begun places power pending) (book_state tree' seed entries' callers' orders commands waiting running' begun places' power' pending') actor number create
-called-state disk counts tree seed entries callers orders commands waiting running begun places power pending tree' entries1 entries' callers1 callers' running1 running' places1 places' power' pending1 pending' actor number create in_the_way call made change task first is_call is_made counted
-    same_entries is_entries same_callers is_callers same_running sorted put same_places is_places is_task same_pending is_change_said is_power is_pending =
-    let is_running = put-running running running1 running' actor number task (task_after made create in_the_way) same_running sorted put is_task in
-    let e = is_entries ∙ ap (λ es. entries_after made es (entry_of create number)) same_entries in
-    let k = is_callers ∙ ap (λ cs. cs ++ actor ∷ []) same_callers in
-    let p : places_of places' ≡ places_made made (places_of places) (call_of seed create in_the_way) = is_places ∙ ap (λ rows. places_made made (map.from_sorted rows) call) same_places ∙ ap (places_made made (places_of places)) is_call in
-    let w : power' ≡ power_after made power pending (call_of seed create in_the_way) = is_power ∙ ap (λ ps. power_after made power ps call) same_pending ∙ ap (power_after made power pending) is_call in
-    let o : pending' ≡ pending_after made pending (call_of seed create in_the_way) (is_change (entry_of create number)) =
-    is_pending ∙ ap (λ ps. pending_after made ps call change) same_pending ∙ ap (λ c. pending_after made pending c change) is_call ∙ ap (pending_after made pending (call_of seed create in_the_way)) is_change_said in
-    record {
-      in_the_way = in_the_way;
-      made = made;
-      first = first;
-      call = subst (λ c. IsMade (disk tree) (disk tree') c (Ok made)) is_call is_made;
-      counted = counted;
-      state = λ i. record { tree = tree'; seed = seed; entries = e i; callers = k i; orders = orders; commands = commands; waiting = waiting_of waiting; running = is_running i; begun = map.from_sorted begun.rows; places = p i; power = w i; pending = o i };
-    }
-
--- the state after a recovery's call
-pub recovered-state : {D : Type 0} (disk : D → Disk) (counts : D → Counts) (tree : D) (seed : List ℕ) (entries : List Entry) (callers : List Actor) (orders : List Order) (commands : List Command) (waiting : Sorted Actor (List ℕ)) (running : Sorted Actor Running) (begun : Sorted Actor ℕ) (places : Sorted Place (Unit {0})) (power : Power) (pending : List Bool) (tree' : D) (entries1 entries' : List Entry) (callers1 callers' : List Actor) (running1 running' : Sorted Actor Running) (places1 places' : Sorted Place (Unit {0})) (power' : Power) (pending1 pending' : List Bool)
-    (actor : Actor) (number : ℕ) (recovery : Recovery) (left : Option Place) (made : Bool) (task : Task)
-    → IsRecovered (disk tree) (disk tree') (places_of places1) (places_of places') recovery (Ok made) → IsFirstLeft (places_of places') left → IsCounted (counts tree) (counts tree') (as_answer (Ok made))
-    → entries1 ≡ entries → entries' ≡ entries_recovered made recovery entries1 → callers1 ≡ callers → callers' ≡ callers1 ++ actor ∷ []
-    → running1.rows ≡ running.rows → IsSorted actor_cmp running1.rows → running'.rows ≡ put actor_cmp actor (record { number = number; task = task }) running1.rows
-    → places1.rows ≡ places.rows → pending1 ≡ pending → power' ≡ power_recovered made recovery power pending1 → pending' ≡ pending_recovered made recovery pending1 → task ≡ task_recovered made left power'.dirty
-    → Recovers disk counts (book_state tree seed entries callers orders commands waiting running begun places power pending) (book_state tree' seed entries' callers' orders commands waiting running' begun places' power' pending') actor number recovery
-recovered-state disk counts tree seed entries callers orders commands waiting running begun places power pending tree' entries1 entries' callers1 callers' running1 running' places1 places' power' pending1 pending' actor number recovery left made task call first counted
-    same_entries is_entries same_callers is_callers same_running sorted put same_places same_pending is_power is_pending is_task =
-    let w : power' ≡ power_recovered made recovery power pending = is_power ∙ ap (power_recovered made recovery power) same_pending in
-    let is_running = put-running running running1 running' actor number task (task_recovered made left (power_recovered made recovery power pending).dirty) same_running sorted put (is_task ∙ ap (λ p. task_recovered made left p.dirty) w) in
-    let e = is_entries ∙ ap (entries_recovered made recovery) same_entries in
-    let k = is_callers ∙ ap (λ cs. cs ++ actor ∷ []) same_callers in
-    let o : pending' ≡ pending_recovered made recovery pending = is_pending ∙ ap (pending_recovered made recovery) same_pending in
-    record {
-      places = places_of places';
-      left = left;
-      made = made;
-      call = subst (λ rows. IsRecovered (disk tree) (disk tree') (map.from_sorted rows) (places_of places') recovery (Ok made)) same_places call;
-      first = first;
-      counted = counted;
-      state = λ i. record { tree = tree'; seed = seed; entries = e i; callers = k i; orders = orders; commands = commands; waiting = waiting_of waiting; running = is_running i; begun = map.from_sorted begun.rows; places = places_of places'; power = w i; pending = o i };
-    }
-
--- the state after a stop
-pub stopped-state : {D : Type 0} (disk : D → Disk) (counts : D → Counts) (tree : D) (seed : List ℕ) (entries : List Entry) (callers : List Actor) (orders : List Order) (commands : List Command) (waiting : Sorted Actor (List ℕ)) (running : Sorted Actor Running) (begun : Sorted Actor ℕ) (places : Sorted Place (Unit {0})) (power : Power) (pending : List Bool) (tree' : D) (entries1 entries' : List Entry) (orders1 orders' : List Order) (running' : Sorted Actor Running) (power' : Power) (pending' : List Bool) (cut : Cut) (order : Order) (kept : ℕ)
-    → IsWhole disk (book_state tree seed entries callers orders commands waiting running begun places power pending) → disk tree' ≡ stopped (disk tree) cut.keep cut.fills → counts tree' ≡ counts tree → entries1 ≡ entries → entries' ≡ entries1 ++ Stopped kept ∷ [] → orders1 ≡ orders → orders' ≡ orders1 ++ order ∷ [] → order ≡ Stop cut
-    → running'.rows ≡ [] → pending' ≡ [] → power' ≡ record power { phase = Halted; dirty = false; durable = kept } → kept ≡ power.durable + count_changes (take (min cut.keep (length pending)) pending)
-    → IsStopped disk counts (book_state tree seed entries callers orders commands waiting running begun places power pending) (book_state tree' seed entries' callers orders' commands waiting running' begun places power' pending') cut
-stopped-state {D} disk counts tree seed entries callers orders commands waiting running begun places power pending tree' entries1 entries' orders1 orders' running' power' pending' cut order kept whole left same_counts same_entries is_entries same_orders is_orders is_order none none_pending is_power is_kept =
-    let before : BookState D = book_state tree seed entries callers orders commands waiting running begun places power pending in
-    let survived : kept ≡ survivors disk before cut.keep = is_kept ∙ survive disk before cut.keep whole in
-    let e = is_entries ∙ ap (λ es. es ++ Stopped kept ∷ []) same_entries ∙ ap (λ n. entries ++ Stopped n ∷ []) survived in
-    let o = is_orders ∙ ap (λ os. os ++ order ∷ []) same_orders ∙ ap (λ x. orders ++ x ∷ []) is_order in
-    let r : map.from_sorted {R = actor_cmp} running'.rows ≡ map.empty = empty-rows actor_cmp running'.rows none in
-    let w : power' ≡ record power { phase = Halted; dirty = false; durable = survivors disk before cut.keep } = is_power ∙ ap (λ n. record power { phase = Halted; dirty = false; durable = n }) survived in
+-- the machine stopped
+pub stopped-book : {D : Type 0} (disk : D → Disk) (counts : D → Counts) (book : BookState D) → IsWhole disk counts book
+    → (tree : D) (cut : Cut) (kept : ℕ) (ledger ledger' : LedgerState) (copied : Cut) (docket' : Docket) (tracker' : TrackerState)
+    → disk tree ≡ stopped (disk book.tree) cut.keep cut.fills → counts tree ≡ counts book.tree
+    → kept ≡ book.tracker.durable + count_changes (take (min cut.keep (length book.tracker.pending)) book.tracker.pending)
+    → ledger ≡ book.ledger → copied ≡ cut
+    → ledger' ≡ record ledger { entries = ledger.entries ++ Stopped kept ∷ []; orders = ledger.orders ++ Stop copied ∷ [] }
+    → docket' ≡ record book.docket { running = map.empty }
+    → tracker' ≡ record book.tracker { phase = Halted; durable = kept; pending = [] }
+    → IsStopped disk counts book (record book { tree = tree; ledger = ledger'; docket = docket'; tracker = tracker' }) cut
+stopped-book disk counts book whole tree cut kept ledger ledger' copied docket' tracker' left same_counts is_kept same is_copied
+    entered ended stops =
+    let survive : kept ≡ survivors (timeline (disk book.tree) (machine_of book)) cut.keep = is_kept
+    ∙ ap (λ n. n + count_changes (take (min cut.keep (length book.tracker.pending)) book.tracker.pending)) (sym whole.agrees.durable)
+    ∙ ap (λ n. (machine_of book).kept + n) (count-kept (disk book.tree) book.tracker.pending cut.keep whole.agrees.pending) in
     record {
       left = left;
       same_counts = same_counts;
-      state = λ i. record { tree = tree'; seed = seed; entries = e i; callers = callers; orders = o i; commands = commands; waiting = waiting_of waiting; running = r i; begun = map.from_sorted begun.rows; places = places_of places; power = w i; pending = none_pending i };
+      state = (λ i. record book {
+        tree = tree;
+        ledger = (entered ∙ ap {A = LedgerState} (λ l. record l {
+          entries = l.entries ++ Stopped kept ∷ [];
+          orders = l.orders ++ Stop copied ∷ [];
+        }) same ∙ ap {A = Cut} (λ c. record book.ledger {
+          entries = book.ledger.entries ++ Stopped kept ∷ [];
+          orders = book.ledger.orders ++ Stop c ∷ [];
+        }) is_copied) i;
+        docket = ended i;
+        tracker = stops i;
+      }) ∙ ap (λ n. after_stop book tree cut n) survive;
     }
 
--- the state after a restart
-pub restarted-state : {D : Type 0} (disk : D → Disk) (counts : D → Counts) (tree : D) (seed : List ℕ) (entries : List Entry) (callers : List Actor) (orders : List Order) (commands : List Command) (waiting : Sorted Actor (List ℕ)) (running : Sorted Actor Running) (begun : Sorted Actor ℕ) (places : Sorted Place (Unit {0})) (power : Power) (pending : List Bool) (tree' : D) (entries1 entries' : List Entry) (commands1 commands' : List Command) (waiting' : Sorted Actor (List ℕ)) (begun' : Sorted Actor ℕ) (power' : Power) (boot level number : ℕ)
-    → disk tree' ≡ disk tree → counts tree' ≡ counts tree → entries1 ≡ entries → entries' ≡ entries1 ++ Restarted boot level ∷ [] → boot ≡ power.boot + 1 → commands1 ≡ commands → commands' ≡ commands1 ++ RecoverCommand ∷ [] → number ≡ length commands
-    → waiting_of waiting' ≡ map.insert (waiting_of waiting) Boot (number ∷ queue_of (waiting_of waiting) Boot) → begun'.rows ≡ [] → power' ≡ record power { phase = Down; boot = boot; level = level; dirty = false }
-    → IsRestarted disk counts (book_state tree seed entries callers orders commands waiting running begun places power pending) (book_state tree' seed entries' callers orders commands' waiting' running begun' places power' pending) level
-restarted-state disk counts tree seed entries callers orders commands waiting running begun places power pending tree' entries1 entries' commands1 commands' waiting' begun' power' boot level number same_disk same_counts same_entries is_entries is_boot same_commands is_commands is_number is_waiting none is_power =
-    let e = is_entries ∙ ap (λ es. es ++ Restarted boot level ∷ []) same_entries ∙ ap (λ b. entries ++ Restarted b level ∷ []) is_boot in
-    let c = is_commands ∙ ap (λ cs. cs ++ RecoverCommand ∷ []) same_commands in
-    let q = is_waiting ∙ ap (λ n. map.insert (waiting_of waiting) Boot (n ∷ queue_of (waiting_of waiting) Boot)) is_number in
-    let b : map.from_sorted {R = actor_cmp} begun'.rows ≡ map.empty = empty-rows actor_cmp begun'.rows none in
-    let w = is_power ∙ ap (λ n. record power { phase = Down; boot = n; level = level; dirty = false }) is_boot in
-    record {
+-- the machine started again
+pub restarted-book : {D : Type 0} (disk : D → Disk) (counts : D → Counts) (book : BookState D) (tree : D) (level boot : ℕ)
+    (ledger ledger' : LedgerState) (docket docket' : Docket) (tracker' : TrackerState)
+    → disk tree ≡ disk book.tree → counts tree ≡ counts book.tree → boot ≡ book.tracker.boot → ledger ≡ book.ledger
+    → ledger' ≡ record ledger { entries = ledger.entries ++ Restarted (boot + 1) level ∷ [] }
+    → docket ≡ with_first_command book.docket Boot Recover → docket' ≡ record docket { begun = map.empty }
+    → tracker' ≡ record book.tracker { phase = Down; boot = boot + 1; level = level }
+    → IsRestarted disk counts book (record book { tree = tree; ledger = ledger'; docket = docket'; tracker = tracker' }) level
+restarted-book disk counts book tree level boot ledger ledger' docket docket' tracker' same_disk same_counts is_boot same entered
+    given counted starts = record {
       same_disk = same_disk;
       same_counts = same_counts;
-      state = λ i. record { tree = tree'; seed = seed; entries = e i; callers = callers; orders = orders; commands = c i; waiting = q i; running = map.from_sorted running.rows; begun = b i; places = places_of places; power = w i; pending = pending };
+      state = λ i. record book {
+        tree = tree;
+        ledger = (entered ∙ ap {A = LedgerState} (λ l. record l { entries = l.entries ++ Restarted (boot + 1) level ∷ [] }) same
+            ∙ ap (λ b. record book.ledger { entries = book.ledger.entries ++ Restarted (b + 1) level ∷ [] }) is_boot) i;
+        docket = (counted ∙ ap {A = Docket} (λ d. record d { begun = map.empty }) given) i;
+        tracker = (starts ∙ ap (λ b. record book.tracker { phase = Down; boot = b + 1; level = level }) is_boot) i;
+      };
     }
-
-module _ {D : Type 0} (disk : D → Disk) where
-  pub replied-whole : (before after : BookState D) (actor : Actor) (number : ℕ) (reply : Reply) → after ≡ after_reply before actor number reply → IsWhole disk before → map.get before.running actor ≡ Some (record { number = number; task = Replying reply }) → IsWhole disk after
-  replied-whole before after actor number reply state whole at = subst (IsWhole disk) (sym state) (whole-replied disk before actor number reply whole at)
-
-  pub called-whole : (counts : D → Counts) (before after : BookState D) (actor : Actor) (number : ℕ) (create : Create) → Calls disk counts before after actor number create → IsWhole disk before
-      → map.get before.running actor ≡ Some (record { number = number; task = Creating create }) → IsWhole disk after
-  called-whole counts before after actor number create calls whole at =
-      subst (IsWhole disk) (sym calls.state) (whole-called disk before after.tree actor number create calls.in_the_way calls.made whole at calls.first calls.call)
-
-  pub call-fits-state : (book : BookState D) (actor : Actor) (number : ℕ) (create : Create) (in_the_way : Option Place) (call : Call) → call ≡ call_of book.seed create in_the_way → IsWhole disk book
-      → map.get book.running actor ≡ Some (record { number = number; task = Creating create }) → IsFirstInTheWay book.places create.user in_the_way → Fits (view (disk book.tree)) call
-  call-fits-state book actor number create in_the_way call is whole at first = subst (Fits (view (disk book.tree))) (sym is) (call-fits disk book actor number create in_the_way whole at first)
-
-  pub recovered-whole : (counts : D → Counts) (before after : BookState D) (actor : Actor) (number : ℕ) (recovery : Recovery) → Recovers disk counts before after actor number recovery → IsWhole disk before
-      → map.get before.running actor ≡ Some (record { number = number; task = Recovering recovery }) → IsWhole disk after
-  recovered-whole counts before after actor number recovery recovers whole at =
-      subst (IsWhole disk) (sym recovers.state) (whole-recovered disk before after.tree actor number recovery recovers.places recovers.left recovers.made whole at recovers.call recovers.first)
-
-pub running-at : {D : Type 0} (before before' : BookState D) (actor : Actor) (it : Running) → before ≡ before' → map.get before'.running actor ≡ Some it → map.get before.running actor ≡ Some it
-running-at before before' actor it same at = subst (λ b. map.get b.running actor ≡ Some it) (sym same) at
-
-pub calls-from : {D : Type 0} (disk : D → Disk) (counts : D → Counts) (before before' after : BookState D) (actor : Actor) (number : ℕ) (create : Create) → before ≡ before' → Calls disk counts before after actor number create → Calls disk counts before' after actor number create
-calls-from disk counts before before' after actor number create same calls = subst (λ b. Calls disk counts b after actor number create) same calls
-
-pub recovers-from : {D : Type 0} (disk : D → Disk) (counts : D → Counts) (before before' after : BookState D) (actor : Actor) (number : ℕ) (recovery : Recovery) → before ≡ before' → Recovers disk counts before after actor number recovery → Recovers disk counts before' after actor number recovery
-recovers-from disk counts before before' after actor number recovery same recovers = subst (λ b. Recovers disk counts b after actor number recovery) same recovers
-
-pub stops-from : {D : Type 0} (disk : D → Disk) (counts : D → Counts) (before before' after : BookState D) (cut : Cut) → before ≡ before' → IsStopped disk counts before after cut → IsStopped disk counts before' after cut
-stops-from disk counts before before' after cut same stops = subst (λ b. IsStopped disk counts b after cut) same stops
-
-pub runs-from : {D : Type 0} (before before' : BookState D) → before ≡ before' → before'.power.phase ≢ Halted → before.power.phase ≢ Halted
-runs-from before before' same runs = subst (λ b. b.power.phase ≢ Halted) (sym same) runs
-
-pub restarts-from : {D : Type 0} (disk : D → Disk) (counts : D → Counts) (before before' after : BookState D) (level : ℕ) → before ≡ before' → IsRestarted disk counts before after level → IsRestarted disk counts before' after level
-restarts-from disk counts before before' after level same restarts = subst (λ b. IsRestarted disk counts b after level) same restarts
-
--- what an actor runs, by the row that was looked up
-pub step-at : {D : Type 0} (before before' : BookState D) (actor : Actor) (running : Sorted Actor Running) (it : Running) (task : Task) → before ≡ before' → before.running ≡ map.from_sorted running.rows → IsSorted actor_cmp running.rows
-    → Some it ≡ find actor_cmp actor running.rows → it.task ≡ task → map.get before'.running actor ≡ Some (record { number = it.number; task = task })
-step-at before before' actor running it task same is sorted found at =
-    ap (λ b. map.get b.running actor) (sym same) ∙ ap (λ m. map.get m actor) is ∙ get-rows actor_cmp running.rows sorted actor ∙ sym found ∙ ap (λ t. Some (record { number = it.number; task = t })) at
-
-pub none-at : {D : Type 0} (before before' : BookState D) (actor : Actor) (running : Sorted Actor Running) → before ≡ before' → before.running ≡ map.from_sorted running.rows → IsSorted actor_cmp running.rows
-    → None ≡ find actor_cmp actor running.rows → IsNone (map.get before'.running actor)
-none-at before before' actor running same is sorted found =
-    ap is_some (ap (λ b. map.get b.running actor) (sym same) ∙ ap (λ m. map.get m actor) is ∙ get-rows actor_cmp running.rows sorted actor ∙ sym found)
-
-pub waits-at : {D : Type 0} (before before' : BookState D) (actor : Actor) (waiting : Sorted Actor (List ℕ)) → before ≡ before' → before.waiting ≡ waiting_of waiting → IsSorted actor_cmp waiting.rows
-    → IsSome (find actor_cmp actor waiting.rows) → IsSome (map.get before'.waiting actor)
-waits-at before before' actor waiting same is sorted there =
-    ap is_some (ap (λ b. map.get b.waiting actor) (sym same) ∙ ap (λ m. map.get m actor) is ∙ get-rows actor_cmp waiting.rows sorted actor) ∙ there
-
-pub waits_none-at : {D : Type 0} (before before' : BookState D) (actor : Actor) (waiting : Sorted Actor (List ℕ)) → before ≡ before' → before.waiting ≡ waiting_of waiting → IsSorted actor_cmp waiting.rows
-    → ¬ (IsSome (find actor_cmp actor waiting.rows)) → IsNone (map.get before'.waiting actor)
-waits_none-at before before' actor waiting same is sorted none =
-    ap is_some (ap (λ b. map.get b.waiting actor) (sym same) ∙ ap (λ m. map.get m actor) is ∙ get-rows actor_cmp waiting.rows sorted actor) ∙ nothing (find actor_cmp actor waiting.rows) none
-  where
-    nothing : (found : Option (List ℕ)) → ¬ (IsSome found) → is_some found ≡ false
-    nothing None h = refl
-    nothing (Some q) h = absurd (h refl)
-
--- the state of an opened Book
-pub opened-state : {D : Type 0} (tree : D) (seed : List ℕ) (entries : List Entry) (callers : List Actor) (orders : List Order) (commands : List Command) (waiting : Sorted Actor (List ℕ)) (running : Sorted Actor Running) (begun : Sorted Actor ℕ) (places : Sorted Place (Unit {0})) (power : Power) (pending : List Bool)
-    → entries ≡ [] → callers ≡ [] → orders ≡ [] → commands ≡ [] → waiting.rows ≡ [] → running.rows ≡ [] → begun.rows ≡ [] → places.rows ≡ [] → power ≡ new_power → pending ≡ [] → book_state tree seed entries callers orders commands waiting running begun places power pending ≡ new_book tree seed
-opened-state tree seed entries callers orders commands waiting running begun places power pending e c o k w r b p h n =
-    let w' : waiting_of waiting ≡ map.empty = empty-rows actor_cmp waiting.rows w in
-    let r' : map.from_sorted {R = actor_cmp} running.rows ≡ map.empty = empty-rows actor_cmp running.rows r in
-    let b' : map.from_sorted {R = actor_cmp} begun.rows ≡ map.empty = empty-rows actor_cmp begun.rows b in
-    let p' : places_of places ≡ map.empty = empty-rows place_cmp places.rows p in
-    λ i. record { tree = tree; seed = seed; entries = e i; callers = c i; orders = o i; commands = k i; waiting = w' i; running = r' i; begun = b' i; places = p' i; power = h i; pending = n i }
-
--- the state with a further command
-pub given-state : {D : Type 0} (tree : D) (seed : List ℕ) (entries : List Entry) (callers : List Actor) (orders : List Order) (commands : List Command) (waiting : Sorted Actor (List ℕ)) (running : Sorted Actor Running) (begun : Sorted Actor ℕ) (places : Sorted Place (Unit {0})) (power : Power) (pending : List Bool) (commands1 commands' : List Command) (waiting' : Sorted Actor (List ℕ))
-    (command : Command) (actor : Actor) (number : ℕ) → actor ≡ actor_of command → number ≡ length commands → commands1 ≡ commands → commands' ≡ commands1 ++ command ∷ []
-    → waiting_of waiting' ≡ map.insert (waiting_of waiting) actor (queue_of (waiting_of waiting) actor ++ number ∷ [])
-    → book_state tree seed entries callers orders commands' waiting' running begun places power pending ≡ with_command (book_state tree seed entries callers orders commands waiting running begun places power pending) command
-given-state tree seed entries callers orders commands waiting running begun places power pending commands1 commands' waiting' command actor number is_actor is_number same pushed added =
-    let c = pushed ∙ ap (λ cs. cs ++ command ∷ []) same in
-    let w : waiting_of waiting' ≡ map.insert (waiting_of waiting) (actor_of command) (queue_of (waiting_of waiting) (actor_of command) ++ length commands ∷ []) =
-    added ∙ ap (λ a. map.insert (waiting_of waiting) a (queue_of (waiting_of waiting) a ++ number ∷ [])) is_actor ∙ ap (λ n. map.insert (waiting_of waiting) (actor_of command) (queue_of (waiting_of waiting) (actor_of command) ++ n ∷ [])) is_number in
-    λ i. record { tree = tree; seed = seed; entries = entries; callers = callers; orders = orders; commands = c i; waiting = w i; running = map.from_sorted running.rows; begun = map.from_sorted begun.rows; places = places_of places; power = power; pending = pending }
-
-pub given-whole : {D : Type 0} (disk : D → Disk) (before after : BookState D) (command : Command) → length before.commands < max_commands → after ≡ with_command before command → IsWhole disk before → IsWhole disk after
-given-whole disk before after command room state whole = subst (IsWhole disk) (sym state) (whole-given disk before command room whole)
-
-pub room-at : {D : Type 0} (before before' : BookState D) → before ≡ before' → length before'.commands < max_commands → length before.commands < max_commands
-room-at before before' same room = subst (λ b. length b.commands < max_commands) (sym same) room
-
--- the test of a full Book
-pub count-iff : {D : Type 0} (before before' : BookState D) (count limit : ℕ) → before ≡ before' → count ≡ length before.commands → limit ≡ max_commands → IsTrue (count == limit) ↔ (length before'.commands ≡ max_commands)
-count-iff before before' count limit same counted limited =
-    (λ on. ap (λ b. length b.commands) (sym same) ∙ sym counted ∙ eqb-true count limit on ∙ limited, λ full. eq-eqb count limit (counted ∙ ap (λ b. length b.commands) same ∙ full ∙ sym limited))

@@ -1,113 +1,254 @@
--- The turn that replies, and a command that is given out, keep the parts.
-use Rattle.std.proofs.Common.{◌≡◌, inl, inr, ℕ, ◌<◌, List, [], ◌∷◌, ◌++◌, length, refl, sym, ap, ◌∙◌, subst, arith, length-append}
-use Rattle.std.specs.Prelude.{Option, Some, None, IsSomeAnd, Contains}
+-- A turn that gives a reply keeps a Book whole.
+use Rattle.std.proofs.Common.{◌≡◌, ◌≢◌, ℕ, inl, inr, [], ◌∷◌, ◌++◌, refl, sym, ap, ◌∙◌, subst}
+use Rattle.std.specs.Prelude.{◌⊎◌, Option, Some, None, IsSomeAnd, Contains, slice_get}
 use Rattle.std.specs.Cmp.{nat_cmp_total}
 use Rattle.std.specs.FinMap as map
 use Rattle.std.specs.FinMap.{nat_cmp-IsAntisymmetric}
-use Rattle.std.proofs.lemmas.List.{append-nil}
-use Rattle.tree_model.specs.Disk.{Disk}
-use Rattle.tree_model.proofs.Maps.{decide_key, get-remove_same, get-remove_other}
+use Rattle.tree_model.specs.Disk.{view}
+use Rattle.tree_model.proofs.Maps.{get-remove_same, get-remove_other}
 use Rattle.journal_model.specs.declared.commands.Actor.{Actor}
+use Rattle.journal_model.specs.declared.commands.Actor.TheVariants.{User}
 use Rattle.journal_model.specs.declared.commands.Command.{Command}
-use Rattle.journal_model.specs.declared.commands.Command.TheVariants.{Create as CreateCommand, Recover}
+use Rattle.journal_model.specs.declared.commands.Command.TheVariants.{Create, Recover}
 use Rattle.journal_model.specs.declared.commands.Reply.{Reply}
 use Rattle.journal_model.specs.declared.commands.Reply.TheVariants.{Done, Ended, UserExists, Ready, TreeFault}
-use Rattle.journal_model.specs.declared.entries.Entry.{Entry}
+use Rattle.journal_model.specs.declared.entries.Change.{Change}
 use Rattle.journal_model.specs.declared.entries.Entry.TheVariants.{Replied}
-use Rattle.journal_model.specs.Actor.{actor_total, actor_exact}
+use Rattle.journal_model.specs.declared.phase.Phase.{Phase}
+use Rattle.journal_model.specs.declared.phase.Phase.TheVariants.{Up, Down, Halted}
+use Rattle.journal_model.specs.Actor.{actor_cmp, actor_total, actor_exact}
 use Rattle.journal_model.specs.Command.{actor_of}
-use Rattle.journal_model.specs.Machine.{Machine, Phase, Up, Running as Began, if_running, phase_after, after_entry, numbers_begun, AllowsReply, MayCome}
-use Rattle.journal_model.proofs.Steps.{begun_by-append, numbers_begun-append}
+use Rattle.journal_model.specs.Machine.{Machine, Running as BeganCommand, after_entry, if_running, phase_after, IsDurable}
+use Rattle.journal_model.specs.Machine.{kind_of_reply, Success, Refusal as RefusalKind, Fault as FaultKind, AllowsSuccess, MayEnd, Succeeds, AllowsReply}
+use Rattle.journal_model.proofs.RefusalKinds.{phase-stays}
+use Rattle.journal_model.proofs.Steps.{machine_after-append, legal-append}
+use Rattle.user_world.specs.declared.turns.Next.TheVariants.{Reply as ReplyNext}
+use Rattle.user_world.specs.Changes.{local_of}
+use Rattle.user_world.specs.Timelines.{own_of}
+use Rattle.user_world.specs.Turns.{IsLogged, AreDurable}
+use Rattle.user_world.proofs.Timelines.{logged-shown, durable-shown}
+use Rattle.user_world.proofs.Worlds.{owned-change}
+use Rattle.user_tasks.specs.Tasks.{user_of}
 use Rattle.vold_book.specs.declared.tasks.Running.{Running}
-use Rattle.vold_book.specs.declared.tasks.Task.TheVariants.{Reply as Replying}
-use Rattle.vold_book.specs.Book.{PartsStand, CountMap, max_commands}
-use Rattle.vold_book.specs.Numbers.{Waiting, queue_of}
-use Rattle.vold_book.specs.Places.{PlaceMap}
-use Rattle.vold_book.proofs.Work.{WorkStands}
-use Rattle.vold_book.specs.TaskStands.{RunningMap, ReplyStands, TaskStands}
-use Rattle.vold_book.proofs.Numbers.{numbers-quiet, numbers-given}
-use Rattle.vold_book.proofs.TaskStands.{disk-same, log-same}
-use Rattle.vold_book.proofs.OneTurn.{tasks-turn, runs_apart}
+use Rattle.vold_book.specs.declared.tasks.Task.{Task}
+use Rattle.vold_book.specs.declared.tasks.Task.TheVariants.{User as Using, Recovery as Recovers, Refusal, Fault}
+use Rattle.vold_book.specs.Places.{IsTidy}
+use Rattle.vold_book.specs.State.{Plain, machine_of, timeline, ground_of}
+use Rattle.vold_book.specs.Tasks.{TaskStands, RunsOn, TaskShows, Plans}
+use Rattle.vold_book.specs.Turns.{after_reply}
+use Rattle.vold_book.specs.Whole.{PhaseStands, IsCharged, Whole}
+use Rattle.vold_book.proofs.Moves.{no_some, whole-of, runs_apart}
+use Rattle.vold_book.proofs.Numbers.{quiet-replied, numbers-quiet, numbers-running}
+use Rattle.vold_book.proofs.RecoveryTurns.{recovery-down, nobody-else}
+use Rattle.vold_book.proofs.UserTurns.{not_boot}
 
-stays_up : (phase : Phase) (running : Began) (reply : Reply) → phase ≡ Up → phase_after phase running reply ≡ Up
-stays_up phase running Done up = up
-stays_up phase running (Ended count) up = refl
-stays_up phase running UserExists up = up
-stays_up phase running Ready up = up
-stays_up phase running TreeFault up = up
+-- what tells a success of a user's world tells it of the log
+success-more : (Logged Logged' : Change → Type 0) (Durable Durable' : Option ℕ → Type 0) (boot : ℕ) (began : BeganCommand)
+    (command : Command) (reply : Reply) → ((change : Change) → Logged change → Logged' change)
+    → ((of : Option ℕ) → Durable of → Durable' of) → AllowsSuccess Logged Durable boot began command reply
+    → AllowsSuccess Logged' Durable' boot began command reply
+success-more L L' D D' boot began (Create user) Done logged durable success = (logged _ success.0, durable (Some user) success.1)
+success-more L L' D D' boot began (Create user) (Ended count) logged durable success = absurd success
+success-more L L' D D' boot began (Create user) UserExists logged durable success = absurd success
+success-more L L' D D' boot began (Create user) Ready logged durable success = absurd success
+success-more L L' D D' boot began (Create user) TreeFault logged durable success = absurd success
+success-more L L' D D' boot began Recover Done logged durable success = absurd success
+success-more L L' D D' boot began Recover (Ended count) logged durable success = (success.0, durable None success.1)
+success-more L L' D D' boot began Recover UserExists logged durable success = absurd success
+success-more L L' D D' boot began Recover Ready logged durable success = absurd success
+success-more L L' D D' boot began Recover TreeFault logged durable success = absurd success
 
-up_after : (found : Option Began) (phase : Phase) (reply : Reply) → phase ≡ Up → if_running found phase (λ r. phase_after phase r reply) ≡ Up
-up_after None phase reply up = up
-up_after (Some running) phase reply up = stays_up phase running reply up
+module _ (book : Plain) (actor : Actor) (it : Running) (reply : Reply) (whole : Whole book)
+    (plans : Plans book actor it (ReplyNext reply)) where
+  abbrev machine : Machine
+  machine = machine_of book
 
-allowed : (machine : Machine) (command : Command) (began : Began) (reply : Reply) → ReplyStands machine command began reply → AllowsReply machine began began.verdict reply
-allowed machine (CreateCommand user) began reply stands = stands
-allowed machine Recover began reply stands = subst (λ verdict. AllowsReply machine began verdict reply) (sym stands) refl
+  abbrev began : BeganCommand
+  began = plans.on.began
 
--- what a reply leaves
-pub record RepliesWhole (seed : List ℕ) (disk : Disk) (machine : Machine) (entries : List Entry) (commands : List Command) (waiting : Waiting) (running : RunningMap) (counts : CountMap) (places : PlaceMap) (actor : Actor) (number : ℕ) (reply : Reply) : Type 0 where
-  pub may : MayCome entries machine (Replied number reply)
-  pub parts : WorkStands seed disk (after_entry entries machine (Replied number reply)) (entries ++ Replied number reply ∷ []) commands waiting (map.remove running actor) counts places
+  -- a recovery ended that left nothing half made, and nothing else runs
+  record Recovered (phase : Phase) : Type 0 where
+    up : phase ≡ Up
+    tidy : IsTidy book.places (view book.tree.disk)
+    still : book.tree.disk.pending ≡ []
+    alone : (other : Actor) (o : Running) → other ≢ actor → map.get book.docket.running other ≡ Some o → ⊥
 
-pub parts-replied : (seed : List ℕ) → (disk : Disk) (machine : Machine) (entries : List Entry) (commands : List Command) (waiting : Waiting) (running : RunningMap) (counts : CountMap) (places : PlaceMap) (actor : Actor) (number : ℕ) (reply : Reply)
-    → WorkStands seed disk machine entries commands waiting running counts places → map.get running actor ≡ Some (record { number = number; task = Replying reply })
-    → RepliesWhole seed disk machine entries commands waiting running counts places actor number reply
-parts-replied seed disk machine entries commands waiting running counts places actor number reply stand at =
-    let entry = Replied number reply in
-    let after : Machine = after_entry entries machine entry in
-    let it : Running = record { number = number; task = Replying reply } in
-    record {
-      may = may_reply (map.get machine.running number) (stand.tasks.run actor it at);
-      parts = record {
-        up = up_after (map.get machine.running number) machine.phase reply stand.up;
-        boots = stand.boots;
-        images = stand.images;
-        known = stand.known;
-        tasks = tasks-turn seed actor number disk disk machine after running (map.remove running actor) (record {
-          others = λ other differ. get-remove_other actor_total actor_exact running actor other differ;
-          on_machine = λ n differ. get-remove_other nat_cmp_total nat_cmp-IsAntisymmetric machine.running number n differ;
-          apart = λ other o differ there. runs_apart seed disk machine running actor other o it stand.tasks differ there at;
-          alone = λ o there. ap (λ r. r.number) (some_same o it (sym there ∙ at));
-          keeps_disk = λ user differ. disk-same user disk;
-          keeps_log = λ user differ. log-same user machine after refl refl refl;
-          own = λ o there. absurd (no_some o (sym (get-remove_same actor_total actor_exact running actor) ∙ there));
-          own_all = λ began there. absurd (no_began began (sym (get-remove_same nat_cmp_total nat_cmp-IsAntisymmetric machine.running number) ∙ there));
-        }) stand.tasks;
-        runs = λ n began there. subst (λ ns. Contains ns n) (sym (numbers_begun-append entries entry ∙ append-nil (numbers_begun entries))) (began_before n began there);
-        numbers = numbers-quiet entries commands waiting entry tt stand.numbers;
-        counts = λ other. stand.counts other ∙ sym (begun_by-append other entries entry);
-        few = stand.few;
-      };
-    }
-  where
-    some_same : (a b : Running) → Some a ≡ Some b → a ≡ b
-    some_same a b e = cc
+  -- the phase stays, or it is up then
+  abbrev PhaseGoes : Phase → Type 0
+  PhaseGoes phase = (phase ≡ machine.phase) ⊎ Recovered phase
 
-    no_some : (o : Running) → None ≡ Some o → ⊥
-    no_some o e = cc
+  record Ends : Type 0 where
+    may : AllowsReply machine began began.verdict reply
+    goes : PhaseGoes (phase_after machine.phase began.command reply)
 
-    no_began : (o : Began) → None ≡ Some o → ⊥
-    no_began o e = cc
+  stays : kind_of_reply reply ≢ Success → PhaseGoes (phase_after machine.phase began.command reply)
+  stays differ = inl (phase-stays machine.phase began.command reply differ)
 
-    may_reply : (found : Option Began) → IsSomeAnd found (λ began. (actor_of began.command ≡ actor) × TaskStands seed disk machine (Replying reply) began) → IsSomeAnd found (λ began. AllowsReply machine began began.verdict reply)
-    may_reply None run = run
-    may_reply (Some began) run = allowed machine began.command began reply run.1
+  none-allows : began.verdict ≡ None → MayEnd (kind_of_reply reply) (Succeeds machine began reply)
+      → AllowsReply machine began began.verdict reply
+  none-allows none may = subst (λ verdict. AllowsReply machine began verdict reply) (sym none) may
 
-    began_before : (n : ℕ) (began : Began) → map.get (map.remove machine.running number) n ≡ Some began → Contains (numbers_begun entries) n
-    began_before n began there = elim (decide_key nat_cmp_total nat_cmp-IsAntisymmetric n number) [
-      | inl same ↦ absurd (no_began began (sym (get-remove_same nat_cmp_total nat_cmp-IsAntisymmetric machine.running number) ∙ ap (map.get (map.remove machine.running number)) (sym same) ∙ there))
-      | inr differ ↦ stand.runs n began (sym (get-remove_other nat_cmp_total nat_cmp-IsAntisymmetric machine.running number n differ) ∙ there)
-    ]
+  -- whatever the task, the reply may be given
+  ends : (task : Task) → it.task ≡ task → Ends
+  ends task is =
+      by task (subst (λ t. TaskStands (ground_of book) t began) is plans.on.stands)
+      (subst (λ t. TaskShows (ground_of book) began t (ReplyNext reply)) is plans.shows)
+      (subst (λ t. map.get book.docket.running actor ≡ Some (record { number = it.number; task = t })) is plans.runs)
+      (subst (λ t. RunsOn (ground_of book) machine actor (record { number = it.number; task = t })) is plans.on)
+    where
+      user-stays : (user : ℕ) (command : Command) → actor_of command ≡ User user
+          → phase_after machine.phase command reply ≡ machine.phase
+      user-stays user (Create owner) own = refl
+      user-stays user Recover own = absurd (not_boot user own)
 
--- a further command waits last for its actor
-pub parts-given : (seed : List ℕ) (disk : Disk) (machine : Machine) (entries : List Entry) (commands : List Command) (waiting : Waiting) (counts : CountMap) (command : Command)
-    → length commands < max_commands → PartsStand seed disk machine entries commands waiting counts
-    → PartsStand seed disk machine entries (commands ++ command ∷ []) (map.insert waiting (actor_of command) (queue_of waiting (actor_of command) ++ length commands ∷ [])) counts
-parts-given seed disk machine entries commands waiting counts command room stand = record {
-  images = stand.images;
-  runs = stand.runs;
-  numbers = numbers-given entries commands waiting command stand.numbers;
-  counts = stand.counts;
-  boots = let was = stand.boots in omega (arith, was, length-append commands (command ∷ []));
-  few = omega (arith, room, length-append commands (command ∷ []));
-}
+      by : (task : Task) → TaskStands (ground_of book) task began → TaskShows (ground_of book) began task (ReplyNext reply)
+          → map.get book.docket.running actor ≡ Some (record { number = it.number; task = task })
+          → RunsOn (ground_of book) machine actor (record { number = it.number; task = task }) → Ends
+      by (Using task) stands shows runs on =
+          let user = user_of task in
+          let line = timeline book.tree.disk machine in record {
+            may = none-allows stands.accepted (subst (λ kind. MayEnd kind (Succeeds machine began reply)) (sym shows.success)
+                (success-more (IsLogged user (own_of user line)) _ (AreDurable user (own_of user line)) (IsDurable machine)
+                machine.boot began began.command reply
+                (λ change logged. subst (Contains machine.log) (owned-change change user logged.0)
+                (logged-shown user _ line whole.worlds.shows (local_of change) logged.1))
+                (λ of durable. subst (IsDurable machine) (sym durable.0) (durable-shown user _ line whole.worlds.shows durable.1))
+                shows.may));
+            goes = inl (user-stays user began.command stands.of_user);
+          }
+      by (Recovers recovery) stands shows runs on =
+          let down = recovery-down book actor it.number recovery whole runs on in
+          let durable = (subst (λ phase. PhaseStands phase book machine) down whole.phase).0 in record {
+            may = none-allows stands.0.verdict (subst (λ r. MayEnd (kind_of_reply r) (Succeeds machine began r)) (sym shows.ended)
+                (subst (λ c. AllowsSuccess (Contains machine.log) (IsDurable machine) machine.boot began c (Ended 0))
+                (sym stands.0.command) (refl, durable)));
+            goes = inr (record {
+              up = ap (λ r. phase_after machine.phase began.command r) shows.ended
+                  ∙ ap (λ c. phase_after machine.phase c (Ended 0)) stands.0.command;
+              tidy = shows.tidy;
+              still = shows.still;
+              alone = λ other o differ at. nobody-else book actor it.number recovery whole runs on other o differ at;
+            });
+          }
+      by (Refusal refusal) stands shows runs on = record {
+        may = subst (λ verdict. AllowsReply machine began verdict reply) (sym stands.0) shows;
+        goes = stays (λ success. refusal_success (sym stands.1 ∙ ap kind_of_reply (sym shows) ∙ success));
+      }
+        where
+          refusal_success : RefusalKind ≡ Success → ⊥
+          refusal_success e = cc
+      by Fault stands shows runs on = record {
+        may = none-allows stands (subst (λ r. MayEnd (kind_of_reply r) (Succeeds machine began r)) (sym shows) tt);
+        goes = stays (λ success. fault_success (ap kind_of_reply (sym shows) ∙ success));
+      }
+        where
+          fault_success : FaultKind ≡ Success → ⊥
+          fault_success e = cc
+
+  abbrev machine' : Machine
+  machine' = after_entry book.ledger.entries machine (Replied it.number reply)
+
+  phase-is : machine'.phase ≡ phase_after machine.phase began.command reply
+  phase-is = ap (λ found. if_running found machine.phase (λ r. phase_after machine.phase r.command reply)) plans.on.at
+
+  -- the command is the one of its number
+  abbrev given : slice_get book.docket.commands it.number ≡ Some began.command
+  given = (whole.numbers.given it.number began plans.on.at).given
+
+  gone : (n : ℕ) (b : BeganCommand) → map.get machine'.running n ≡ Some b → n ≢ it.number
+  gone n b at same = no_some b (sym (get-remove_same nat_cmp_total nat_cmp-IsAntisymmetric machine.running it.number)
+      ∙ ap (map.get machine'.running) (sym same) ∙ at)
+
+  was_on : (n : ℕ) (b : BeganCommand) → map.get machine'.running n ≡ Some b → map.get machine.running n ≡ Some b
+  was_on n b at =
+      sym (get-remove_other nat_cmp_total nat_cmp-IsAntisymmetric machine.running it.number n (gone n b at)) ∙ at
+
+  abbrev running' : map.FinMap actor_cmp Running
+  running' = map.remove book.docket.running actor
+
+  not_mine : (other : Actor) (o : Running) → map.get running' other ≡ Some o → other ≢ actor
+  not_mine other o at same = no_some o (sym (get-remove_same actor_total actor_exact book.docket.running actor)
+      ∙ ap (map.get running') (sym same) ∙ at)
+
+  was_run : (other : Actor) (o : Running) → map.get running' other ≡ Some o → map.get book.docket.running other ≡ Some o
+  was_run other o at =
+      sym (get-remove_other actor_total actor_exact book.docket.running actor other (not_mine other o at)) ∙ at
+
+  -- another command stands as it did, where the phase stays
+  same-phase : (other : Actor) (o : Running) → map.get running' other ≡ Some o
+      → PhaseGoes (phase_after machine.phase began.command reply) → (b : BeganCommand)
+      → TaskStands (ground_of book) o.task b → TaskStands (record (ground_of book) { phase = machine'.phase }) o.task b
+  same-phase other o at (inl same) b stands =
+      subst (λ phase. TaskStands (record (ground_of book) { phase = phase }) o.task b) (sym (phase-is ∙ same)) stands
+  same-phase other o at (inr up) b stands = absurd (up.alone other o (not_mine other o at) (was_run other o at))
+
+  run-then : (other : Actor) (o : Running) → map.get running' other ≡ Some o
+      → RunsOn (record (ground_of book) { phase = machine'.phase }) machine' other o
+  run-then other o at =
+      let run = whole.run other o (was_run other o at) in
+      let apart = runs_apart machine actor other it o _ _ plans.on run (not_mine other o at) in record {
+        began = run.began;
+        at = get-remove_other nat_cmp_total nat_cmp-IsAntisymmetric machine.running it.number o.number apart ∙ run.at;
+        own = run.own;
+        stands = same-phase other o at (ends it.task refl).goes run.began run.stands;
+      }
+
+  all-then : (n : ℕ) (b : BeganCommand) → map.get machine'.running n ≡ Some b
+      → IsSomeAnd (map.get running' (actor_of b.command)) (λ o. o.number ≡ n)
+  all-then n b at =
+      let was = whole.all n b (was_on n b at) in
+      subst (λ found. IsSomeAnd found (λ o. o.number ≡ n))
+      (sym (get-remove_other actor_total actor_exact book.docket.running actor (actor_of b.command) (not-own was))) was
+    where
+      not-own : IsSomeAnd (map.get book.docket.running (actor_of b.command)) (λ o. o.number ≡ n) → actor_of b.command ≢ actor
+      not-own was same = gone n b at (sym (subst (λ found. IsSomeAnd found (λ o. o.number ≡ n))
+          (ap (map.get book.docket.running) same ∙ plans.runs) was))
+
+  abbrev after : Plain
+  after = after_reply book actor it.number began.command reply
+
+  stands-then : (phase : Phase) → machine.phase ≡ phase → PhaseStands phase book machine
+      → PhaseGoes (phase_after machine.phase began.command reply) → PhaseStands machine'.phase after machine'
+  stands-then phase is stands (inr up) =
+      subst (λ p. PhaseStands p after machine') (sym (phase-is ∙ up.up)) up.tidy.known
+  stands-then Up is stands (inl same) = subst (λ p. PhaseStands p after machine') (sym (phase-is ∙ same ∙ is)) stands
+  stands-then Down is stands (inl same) = subst (λ p. PhaseStands p after machine') (sym (phase-is ∙ same ∙ is))
+      (stands.0, λ other o at. stands.1 other o (was_run other o at))
+  stands-then Halted is stands (inl same) =
+      absurd (no_some it (sym (map.get-empty actor_cmp actor) ∙ ap (λ m. map.get m actor) (sym stands.2) ∙ plans.runs))
+
+  pub whole-replied : IsCharged after → Whole after
+  whole-replied charged =
+      let entry = Replied it.number reply in
+      let may = subst (λ found. IsSomeAnd found (λ b. AllowsReply machine b b.verdict reply)) (sym plans.on.at)
+      (ends it.task refl).may in
+      let phase : machine'.phase ≡ phase_after book.tracker.phase began.command reply =
+      phase-is ∙ ap (λ p. phase_after p began.command reply) whole.agrees.phase in
+      whole-of after machine' (machine_after-append book.ledger.entries entry)
+      (legal-append book.ledger.entries entry whole.legal may) whole.short charged (record {
+        agrees = record {
+          phase = phase;
+          boot = whole.agrees.boot;
+          level = whole.agrees.level;
+          durable = whole.agrees.durable;
+          pending = whole.agrees.pending;
+        };
+        worlds = whole.worlds;
+        numbers = numbers-running book.docket (book.ledger.entries ++ entry ∷ []) machine' running'
+            (numbers-quiet book.docket book.ledger.entries machine entry (quiet-replied it.number reply) machine' whole.numbers refl
+            (λ n b at. whole.numbers.given n b (was_on n b at)));
+        run = run-then;
+        all = all-then;
+        phase = subst (λ p. PhaseStands p after machine') phase
+            (stands-then machine.phase refl (subst (λ p. PhaseStands p book machine) (sym whole.agrees.phase) whole.phase)
+            (ends it.task refl).goes);
+      })
+
+  -- the machine comes up only where nothing is half made
+  pub comes-up : book.tracker.phase ≢ Up → after.tracker.phase ≡ Up
+      → IsTidy book.places (view book.tree.disk) × (book.tree.disk.pending ≡ [])
+  comes-up down up = elim (ends it.task refl).goes [
+    | inl same ↦ absurd (down (sym (same ∙ whole.agrees.phase)
+        ∙ ap (λ p. phase_after p began.command reply) whole.agrees.phase ∙ up))
+    | inr recovered ↦ (recovered.tidy, recovered.still)
+  ]

@@ -1,36 +1,27 @@
 -- Where a command stands by the journal, and what looking at the device leaves of a Book.
-use Rattle.std.specs.Prelude.{◌≡◌, ℕ, nat_eq, nat_lt, cond, List, [], ◌∷◌, length}
+use Rattle.std.specs.Prelude.{◌≡◌, ℕ, cond, nat_eq, nat_lt, List, [], ◌∷◌, length}
 use Rattle.tree_model.specs.Disk.{Disk}
 use Rattle.journal_model.specs.declared.entries.Entry.{Entry}
-use Rattle.journal_model.specs.declared.entries.Entry.TheVariants.{Began, Changed, Synced, Stopped, Restarted, Replied}
+use Rattle.journal_model.specs.declared.entries.Entry.TheVariants.{Began, Stopped, Replied}
 use Rattle.vold_book.specs.declared.standings.Standing.{Standing}
 use Rattle.vold_book.specs.declared.standings.Standing.TheVariants.{Unknown, Queued, Running, Answered, Lost}
-use Rattle.vold_book.specs.Book.{BookState}
+use Rattle.vold_book.specs.State.{BookState}
 
 -- a queued command runs from its beginning on
 abbrev pub queued_after : ℕ → Entry → Standing
 queued_after number (Began begun actor command) = cond (nat_eq begun number) Running Queued
-queued_after number (Changed changed change) = Queued
-queued_after number Synced = Queued
-queued_after number (Stopped kept) = Queued
-queued_after number (Restarted boot level) = Queued
-queued_after number (Replied replied reply) = Queued
+queued_after number entry = Queued
 
 -- a running one ends with its reply, or is lost with the machine
 abbrev pub running_after : ℕ → Entry → Standing
-running_after number (Began begun actor command) = Running
-running_after number (Changed changed change) = Running
-running_after number Synced = Running
 running_after number (Stopped kept) = Lost
-running_after number (Restarted boot level) = Running
 running_after number (Replied replied reply) = cond (nat_eq replied number) (Answered reply) Running
+running_after number entry = Running
 
 abbrev pub stands_after : Standing → ℕ → Entry → Standing
-stands_after Unknown number entry = Unknown
 stands_after Queued number entry = queued_after number entry
 stands_after Running number entry = running_after number entry
-stands_after (Answered reply) number entry = Answered reply
-stands_after Lost number entry = Lost
+stands_after standing number entry = standing
 
 abbrev pub stands_from : Standing → ℕ → List Entry → Standing
 stands_from standing number [] = standing
@@ -41,7 +32,7 @@ abbrev pub stands_in : List Entry → ℕ → Standing
 stands_in entries number = stands_from Queued number entries
 
 abbrev pub standing_of : {D : Type 0} → BookState D → ℕ → Standing
-standing_of book number = cond (nat_lt number (length book.commands)) (stands_in book.entries number) Unknown
+standing_of book number = cond (nat_lt number (length book.docket.commands)) (stands_in book.ledger.entries number) Unknown
 
 -- only the device was looked at, which leaves its disk
 pub record IsLooked {D : Type 0} (disk : D → Disk) (before after : BookState D) : Type 0 where

@@ -1,76 +1,79 @@
-ghost use Rattle.std.specs.Prelude.{◌≡◌, ◌≢◌, ◌↔◌, true, ◌<◌, ◌≤◌, ◌+◌, ◌^◌, [], ◌∷◌, ◌++◌, Ok, IsSome, IsNone, IsTrue, IfOk, IfErr, OnOk, OnErr, MatchResult, length, Some, None};
+ghost use Rattle.std.specs.Prelude.{◌≡◌, ◌≢◌, ◌↔◌, ◌<◌, ◌≤◌, [], Err, IsSome, IsNone, IsTrue, IfOk, OnOk, OnErr, length, slice_get, Some, None};
 ghost use Rattle.std.specs.FinMap as map;
-ghost use Rattle.vold_book.specs.Book.{IsWhole, max_commands};
-ghost use Rattle.std.specs.Prelude.{vec_len};
-ghost use Rattle.std.specs.Vec.{vec_capacity};
-ghost use Rattle.vold_book.specs.Create.{entry_of};
-ghost use Rattle.vold_book.specs.Places.{places_of};
-ghost use Rattle.vold_book.specs.Turns.{new_book, with_command, IsEnqueued, Begins, Calls, Recovers, after_reply, task_after, task_recovered, entries_after, entries_recovered, power_recovered, pending_recovered, places_made, is_change, phase_after, Answers, IsSame};
-ghost use Rattle.vold_book.specs.Steps.{IsStep};
+ghost use Rattle.journal_model.specs.Command.{user_in};
+ghost use Rattle.journal_model.specs.Machine.{TakesTurn};
+ghost use Rattle.journal_model.specs.Refusals.{refusal_of};
+ghost use Rattle.journal_model.specs.declared.phase.Phase.TheVariants.{Up, Halted};
+ghost use Rattle.docket.specs.Docket.{begun_by, IsNextBusy};
 ghost use Rattle.tree_model.specs.Counted.{IsCounted};
 ghost use Rattle.tree_model.specs.Disk.{view};
-ghost use Rattle.vold_book.specs.Busy.{earlier_of, IsNextBusy};
+ghost use Rattle.user_world.specs.declared.turns.Next.TheVariants.{Call as CallNext, Reply as ReplyNext};
 ghost use Rattle.vold_book.specs.Stands.{standing_of, IsLooked};
+ghost use Rattle.vold_book.specs.State.{seen};
+ghost use Rattle.vold_book.specs.Calls.{entry_of};
+ghost use Rattle.vold_book.specs.Steps.{IsStep, as_recovery, as_user, GoesOn, RepliesTo};
+ghost use Rattle.vold_book.specs.Tasks.{Plans};
 ghost use Rattle.vold_book.specs.Stops.{IsStopped, IsRestarted};
-ghost use Rattle.vold_book.specs.Pending.{count_changes, pending_after, power_after};
-ghost use Rattle.vold_book.specs.Powered.{TakesTurn};
-ghost use Rattle.vold_book.specs.Recover.{IsFirstLeft};
-ghost use Rattle.vold_book.specs.declared.power.Phase.TheVariants.{Up, Halted};
-ghost use Rattle.vold_book.specs.declared.tasks.Task.TheVariants.{Create as Creating, Recover as Recovering, Reply as Replying};
+ghost use Rattle.vold_book.specs.Turns.{new_book, opened_at, with_command, IsEnqueued, facts_in, user_there, AcceptedTask, FirstTask};
+ghost use Rattle.vold_book.specs.Turns.{Begins, Makes, made_entry, task_after, Answers, LeavesOthers, Falls, ComesUp, IsSame};
+ghost use Rattle.vold_book.specs.Whole.{IsWhole, max_commands};
 
-use crate::calls::{self, Call};
+use crate::calls;
+use crate::ledger::Ledger;
+use crate::opened::Opened;
 use crate::places::{self, Places};
-use crate::power::{self, Phase, Power};
+use crate::recovery::Recovery;
 use crate::standings::{self, Standing};
-use crate::tasks::{Create, Recovery, Running, Task};
+use crate::tasks::{Running, Task};
+use crate::tracker::Tracker;
 use crate::turns::{Step, Turn};
-use crate::waiting::{self, Waiting};
-use crate::{creates, recoveries};
-use journal_model::{Actor, Birth, Command, EnqueueFault, Entry, Journal, Order, Reply};
+use docket::Docket;
+use journal_model::{
+    Actor, Birth, Command, EnqueueFault, Entry, Facts, Journal, Order, Phase, Reply, refusal,
+};
 use sorted_map::SortedMap;
 use std::alloc::Global;
 use std::marker::Model;
 use tree_model::{Bytes, Cut, DevFault, Dir, NoMemory, Place, TreeDisk};
+use user_tasks::UserTask;
+use user_world::{Call, LocalChange, Next};
 
 /// The most commands that a Book numbers.
 pub const MAX_COMMANDS: usize = 65_536;
 
-/// The actors with their queues and running commands, the device, and the journal of what was done.
+/// The device, what was done on it, the actors with their queues and running commands, and what the journal says of the
+/// machine.
 #[derive(Drop)]
 pub struct Book<T: TreeDisk> {
     alloc: Global,
     tree: T,
+    opened: Opened,
     seed: Bytes,
-    journal: Journal,
-    callers: Vec<Actor>,
-    orders: Vec<Order>,
-    commands: Vec<Command>,
-    waiting: Waiting,
-    running: SortedMap<Actor, Running>,
-    begun: SortedMap<Actor, u32>,
+    ledger: Ledger,
+    docket: Docket<Actor, Command, Running>,
+    tracker: Tracker,
     places: Places,
-    power: Power,
-    pending: Vec<bool>,
 }
 
 impl<T: TreeDisk> Model for Book<T> {
-    ghost use Rattle.std.specs.FinMap as map;
     ghost use Rattle.std.specs.Coded.{codes};
+    ghost use Rattle.std.specs.FinMap as map;
     ghost use Rattle.journal_model.specs.Actor.{actor_code};
     ghost use Rattle.tree_model.specs.Order.{place_code};
+    ghost use Rattle.vold_book.specs.contracts.opened.Opened as opened_type;
     ghost use Rattle.vold_book.specs.contracts.tasks.Running as running_type;
-    ghost use Rattle.vold_book.specs.contracts.power.Power as power_type;
-    ghost use Rattle.vold_book.specs.Book.{BookState};
+    ghost use Rattle.vold_book.specs.State.{BookState};
 
     ghost Value = { BookState T };
 
-    ghost coded = { Prim.hlevel (codes, T.code, map.code, actor_code, place_code, running_type.the_row.coded, power_type.the_row.coded) };
+    ghost coded = { Prim.hlevel (codes, T.code, map.code, actor_code, place_code, opened_type.the_row.coded, running_type.the_row.coded) };
 
-    ghost use Rattle.vold_book.specs.Book.{IsWhole, book_state};
+    ghost use Rattle.vold_book.specs.State.{Parts, book_of};
+    ghost use Rattle.vold_book.specs.Whole.{IsWhole};
 
-    ghost view = { λ book. book_state book.tree book.seed book.journal.entries book.callers.items book.orders.items book.commands.items book.waiting book.running book.begun book.places book.power book.pending.items };
+    ghost view = { λ book. book_of (record { tree = book.tree; opened = book.opened; seed = book.seed; ledger = book.ledger.now; docket = book.docket; tracker = book.tracker.now; places = book.places }) };
 
-    ghost invariant = { λ book. IsWhole T.disk (book_state book.tree book.seed book.journal.entries book.callers.items book.orders.items book.commands.items book.waiting book.running book.begun book.places book.power book.pending.items) };
+    ghost invariant = { λ book. IsWhole T.disk T.counts (book_of (record { tree = book.tree; opened = book.opened; seed = book.seed; ledger = book.ledger.now; docket = book.docket; tracker = book.tracker.now; places = book.places })) };
 }
 
 impl<T: TreeDisk> Book<T> {
@@ -80,23 +83,22 @@ impl<T: TreeDisk> Book<T> {
         requires tree { T.disk tree ≡ record { stable = map.empty; pending = [] } }
         requires seed { length seed ≤ 64 }
         requires level { level ≡ 1 }
-        ensures opened { IfOk result (λ book. book ≡ new_book tree seed) }
-        ensures whole { IfOk result (IsWhole T.disk) }
+        ensures opened { IfOk result (λ book. book ≡ new_book tree (opened_at (T.counts tree)) seed) }
+        ensures whole { IfOk result (IsWhole T.disk T.counts) }
     {
+        let opened = Opened {
+            calls: tree.calls(),
+            faults: tree.faults(),
+        };
         Ok(Book {
             alloc,
             tree,
+            opened,
             seed,
-            journal: Journal::new(alloc),
-            callers: Vec::new(alloc),
-            orders: Vec::new(alloc),
-            commands: Vec::new(alloc),
-            waiting: SortedMap::new(alloc),
-            running: SortedMap::new(alloc),
-            begun: SortedMap::new(alloc),
+            ledger: Ledger::new(alloc),
+            docket: Docket::new(alloc),
+            tracker: Tracker::new(alloc, level),
             places: SortedMap::new(alloc),
-            power: Power::new(level),
-            pending: Vec::new(alloc),
         })
     }
 
@@ -104,7 +106,7 @@ impl<T: TreeDisk> Book<T> {
     /// out. On a refusal the command is given up and nothing else changes.
     pub fn enqueue(&mut self, command: Command) -> Result<u64, EnqueueFault>
         ensures answer { IsEnqueued self.old self.new command result }
-        ensures whole { IsWhole T.disk self.new }
+        ensures whole { IsWhole T.disk T.counts self.new }
     {
         if self.is_full() {
             return Err(EnqueueFault::Full);
@@ -117,33 +119,33 @@ impl<T: TreeDisk> Book<T> {
 
     /// Whether every number is given out.
     pub fn is_full(&self) -> bool
-        ensures full { IsTrue result ↔ (length self.now.commands ≡ max_commands) }
-        ensures few { length self.now.commands ≤ max_commands }
-        ensures whole { IsWhole T.disk self.now }
+        ensures full { IsTrue result ↔ (length self.now.docket.commands ≡ max_commands) }
+        ensures few { length self.now.docket.commands ≤ max_commands }
+        ensures whole { IsWhole T.disk T.counts self.now }
     {
-        self.commands.as_slice().len() == MAX_COMMANDS
+        self.docket.count() == MAX_COMMANDS
     }
 
     /// Gives the command the next number, where one is left.
     fn give_number(&mut self, command: Command) -> Result<u64, NoMemory>
-        requires { length self.old.commands < max_commands }
-        ensures number { IfOk result (λ number. number ≡ length self.old.commands) }
+        requires { length self.old.docket.commands < max_commands }
+        ensures number { IfOk result (λ number. number ≡ length self.old.docket.commands) }
         ensures queued { OnOk result (self.new ≡ with_command self.old command) }
         ensures refused { OnErr result (self.new ≡ self.old) }
+        ensures whole { IsWhole T.disk T.counts self.new }
     {
-        let number = self.commands.as_slice().len() as u64;
-        reserve_command(&mut self.commands)?;
-        waiting::add(self.alloc, &mut self.waiting, command.actor(), number)?;
-        self.commands.push(command).unwrap();
-        Ok(number)
+        self.docket.enqueue(command.actor(), command)
     }
 
     /// Makes the actor's next turn. Want of memory leaves the Book and the device as they were, and the call may be
     /// made again.
     pub fn advance(&mut self, actor: Actor) -> Result<Turn, NoMemory>
-        ensures turn { IfOk result (Answers T.disk T.counts self.old self.new actor) }
+        ensures turn { IfOk result (Answers T.counts self.old self.new actor) }
+        ensures others { OnOk result (LeavesOthers T.disk self.old self.new actor) }
+        ensures falls { IfOk result (Falls T.disk self.old self.new) }
+        ensures ready { OnOk result (ComesUp T.disk self.old self.new) }
         ensures refused { OnErr result (IsSame T.disk T.counts self.old self.new) }
-        ensures whole { IsWhole T.disk self.new }
+        ensures whole { IsWhole T.disk T.counts self.new }
     {
         match self.next_step(actor) {
             Step::Idle => Ok(Turn::Idle),
@@ -152,16 +154,8 @@ impl<T: TreeDisk> Book<T> {
                 self.begin(actor)?;
                 Ok(Turn::Went)
             }
-            Step::Recover(number, recovery) => {
-                self.recover(actor, number, recovery)?;
-                Ok(Turn::Went)
-            }
-            Step::Create(number, create) => {
-                self.call(actor, number, create)?;
-                Ok(Turn::Went)
-            }
-            Step::Reply(number, reply) => {
-                self.reply(actor, number, reply)?;
+            Step::GoOn(it) => {
+                self.go_on(actor, it)?;
                 Ok(Turn::Went)
             }
         }
@@ -170,65 +164,225 @@ impl<T: TreeDisk> Book<T> {
     /// What the actor's next turn does.
     fn next_step(&self, actor: Actor) -> Step
         ensures step { IsStep self.now actor result }
-        ensures whole { IsWhole T.disk self.now }
+        ensures whole { IsWhole T.disk T.counts self.now }
     {
-        match self.running.get(actor) {
-            Some(it) => match it.task {
-                Task::Create(create) => Step::Create(it.number, create),
-                Task::Recover(recovery) => Step::Recover(it.number, recovery),
-                Task::Reply(reply) => Step::Reply(it.number, reply),
-            },
-            None if !self.waiting.contains_key(actor) => Step::Idle,
-            None if self.power.takes(actor) => Step::Begin,
+        match self.docket.running(actor) {
+            Some(it) => Step::GoOn(it),
+            None if !self.docket.is_waiting(actor) => Step::Idle,
+            None if self.tracker.phase().takes(actor) => Step::Begin,
             None => Step::Waits,
         }
     }
 
+    /// Begins what waits first for the actor.
+    fn begin(&mut self, actor: Actor) -> Result<(), NoMemory>
+        requires queued { IsSome (map.get self.old.docket.waiting actor) }
+        requires idle { IsNone (map.get self.old.docket.running actor) }
+        requires takes { TakesTurn self.old.tracker.phase actor }
+        ensures begun { OnOk result (Begins self.old self.new actor) }
+        ensures refused { OnErr result (self.new ≡ self.old) }
+        ensures whole { IsWhole T.disk T.counts self.new }
+    {
+        let number = self.docket.first(actor);
+        let command = self.docket.command(number).duplicate(self.alloc)?;
+        let birth = Birth {
+            boot: self.tracker.boot(),
+            index: self.docket.begun(actor),
+        };
+        let task = self.first_task(&command, birth);
+        self.ledger.reserve()?;
+        self.docket.begin(actor, Running { number, task })?;
+        self.ledger.enter(Entry::Began {
+            number,
+            actor,
+            command,
+        });
+        Ok(())
+    }
+
+    /// What a command that begins does first: its refusal where one is due, and else its first turn.
+    fn first_task(&self, command: &Command, birth: Birth) -> Task
+        ensures { FirstTask command.now birth (refusal_of command.now (facts_in self.now command.now)) result }
+    {
+        let facts = Facts {
+            present: self.is_there(command.user()),
+            ready: self.tracker.phase() == Phase::Up,
+        };
+        match refusal(command, facts) {
+            Some(reply) => Task::Refusal(reply),
+            None => accepted_task(command, birth),
+        }
+    }
+
+    /// Whether the user, if there is one, has a device key's directory.
+    fn is_there(&self, user: Option<u32>) -> bool
+        ensures { result ≡ user_there self.now.places user }
+    {
+        match user {
+            Some(user) => self.places.contains_key(Place::De(user)),
+            None => false,
+        }
+    }
+
+    /// Makes the next turn of the actor's command.
+    fn go_on(&mut self, actor: Actor, it: Running) -> Result<(), NoMemory>
+        requires { map.get self.old.docket.running actor ≡ Some it }
+        ensures turned { OnOk result (GoesOn T.disk T.counts self.old self.new actor it) }
+        ensures refused { OnErr result (IsSame T.disk T.counts self.old self.new) }
+        ensures whole { IsWhole T.disk T.counts self.new }
+    {
+        match self.planned(actor, it)? {
+            Next::Call { call, change, then } => self.call(actor, it, call, change, then),
+            Next::Reply(reply) => self.reply(actor, it, reply),
+        }
+    }
+
+    /// What the actor's command does next, which shows what it has to.
+    fn planned(&self, actor: Actor, it: Running) -> Result<Next<Task>, NoMemory>
+        requires { map.get self.now.docket.running actor ≡ Some it }
+        ensures plans { IfOk result (Plans (seen T.disk T.counts self.now) actor it) }
+        ensures whole { IsWhole T.disk T.counts self.now }
+    {
+        let dirty = self.tracker.is_dirty();
+        match it.task {
+            Task::User(task) => {
+                let site = places::site_in_the_way(&self.places, task.user());
+                Ok(as_user(task.next(self.alloc, self.seed.as_slice(), site)?))
+            }
+            Task::Recovery(recovery) => Ok(as_recovery(recovery.next(&self.places, dirty))),
+            Task::Refusal(reply) => Ok(Next::Reply(reply)),
+            Task::Fault => Ok(Next::Reply(Reply::TreeFault)),
+        }
+    }
+
+    /// Makes the call of the actor's command.
+    fn call(
+        &mut self,
+        actor: Actor,
+        it: Running,
+        call: Call,
+        change: Option<LocalChange>,
+        then: Task,
+    ) -> Result<(), NoMemory>
+        requires { Plans (seen T.disk T.counts self.old) actor it (CallNext call change then) }
+        ensures called { OnOk result (Makes T.disk T.counts self.old self.new actor it.number call change then) }
+        ensures refused { OnErr result (IsSame T.disk T.counts self.old self.new) }
+        ensures whole { IsWhole T.disk T.counts self.new }
+    {
+        self.ledger.reserve()?;
+        self.tracker.reserve()?;
+        self.places.reserve(1)?;
+        let made = calls::make(self.alloc, &mut self.tree, &mut self.places, &call)?;
+        let entry = made_entry(made, &call, change, it.number);
+        self.ledger.note(actor, entry);
+        self.tracker.note(&call, made, change.is_some());
+        let running = Running {
+            number: it.number,
+            task: task_after(made, then),
+        };
+        self.docket.set(actor, running);
+        Ok(())
+    }
+
+    /// Gives the reply of the actor's command.
+    fn reply(&mut self, actor: Actor, it: Running, reply: Reply) -> Result<(), NoMemory>
+        requires { Plans (seen T.disk T.counts self.old) actor it (ReplyNext reply) }
+        ensures replied { OnOk result (RepliesTo self.old self.new actor it reply) }
+        ensures refused { OnErr result (self.new ≡ self.old) }
+        ensures whole { IsWhole T.disk T.counts self.new }
+    {
+        self.ledger.reserve()?;
+        self.tracker.reply(self.docket.command(it.number), reply);
+        self.docket.end(actor);
+        self.ledger.enter(Entry::Replied {
+            number: it.number,
+            reply,
+        });
+        Ok(())
+    }
+
     /// The first actor that has a running command or a queue, in the order of actors.
     pub fn first_busy(&self) -> Option<Actor>
-        ensures { IsNextBusy self.now None result }
+        ensures busy { IsNextBusy self.now.docket None result }
+        ensures whole { IsWhole T.disk T.counts self.now }
     {
-        self.busy_after(None)
+        self.docket.next_busy(None)
     }
 
     /// The next such actor after another.
     pub fn next_busy(&self, after: Actor) -> Option<Actor>
-        ensures { IsNextBusy self.now (Some after) result }
+        ensures busy { IsNextBusy self.now.docket (Some after) result }
+        ensures whole { IsWhole T.disk T.counts self.now }
     {
-        self.busy_after(Some(after))
-    }
-
-    fn busy_after(&self, after: Option<Actor>) -> Option<Actor>
-        ensures { IsNextBusy self.now after result }
-    {
-        earlier(self.running.next_key(after), self.waiting.next_key(after))
+        self.docket.next_busy(Some(after))
     }
 
     /// The journal so far.
     pub fn journal(&self) -> &Journal
-        ensures entries { result.now.entries ≡ self.now.entries }
-        ensures whole { IsWhole T.disk self.now }
+        ensures entries { result.now.entries ≡ self.now.ledger.entries }
+        ensures whole { IsWhole T.disk T.counts self.now }
     {
-        &self.journal
+        self.ledger.journal()
     }
 
     /// The actor of each counted call that `advance` made, in order.
     pub fn callers(&self) -> &[Actor]
-        ensures { result.now ≡ self.now.callers }
+        ensures callers { result.now ≡ self.now.ledger.callers }
+        ensures whole { IsWhole T.disk T.counts self.now }
     {
-        self.callers.as_slice()
+        self.ledger.callers()
+    }
+
+    /// What was given to `stop`, in order.
+    pub fn orders(&self) -> &[Order]
+        ensures orders { result.now ≡ self.now.ledger.orders }
+        ensures whole { IsWhole T.disk T.counts self.now }
+    {
+        self.ledger.orders()
     }
 
     /// Where the command of the number stands.
     pub fn standing(&self, number: u64) -> Standing
         ensures standing { result ≡ standing_of self.now number }
-        ensures whole { IsWhole T.disk self.now }
+        ensures whole { IsWhole T.disk T.counts self.now }
     {
-        if number < self.commands.as_slice().len() as u64 {
-            standings::stands_in(self.journal.as_slice(), number)
+        if number < self.docket.count() as u64 {
+            standings::stands_in(self.ledger.journal().as_slice(), number)
         } else {
             Standing::Unknown
         }
+    }
+
+    /// Whether the machine takes every command: it never stopped, or a recovery ended since it started again.
+    pub fn ready(&self) -> bool
+        ensures ready { IsTrue result ↔ (self.now.tracker.phase ≡ Up) }
+        ensures whole { IsWhole T.disk T.counts self.now }
+    {
+        self.tracker.phase() == Phase::Up
+    }
+
+    /// Whether the machine stopped and didn't start again.
+    pub fn stopped(&self) -> bool
+        ensures stopped { IsTrue result ↔ (self.now.tracker.phase ≡ Halted) }
+        ensures whole { IsWhole T.disk T.counts self.now }
+    {
+        self.tracker.phase() == Phase::Halted
+    }
+
+    /// How often the machine started again.
+    pub fn boot(&self) -> u64
+        ensures boot { result ≡ self.now.tracker.boot }
+        ensures whole { IsWhole T.disk T.counts self.now }
+    {
+        self.tracker.boot()
+    }
+
+    /// The machine's level, at which it may start again.
+    pub fn level(&self) -> u32
+        ensures level { result ≡ self.now.tracker.level }
+        ensures whole { IsWhole T.disk T.counts self.now }
+    {
+        self.tracker.level()
     }
 
     /// The places of the view, in order, as the device lists them.
@@ -240,7 +394,7 @@ impl<T: TreeDisk> Book<T> {
         ensures listed { IfOk result (λ places. places.items ≡ map.keys (view (T.disk self.old.tree))) }
         ensures same { IsLooked T.disk self.old self.new }
         ensures counted { IsCounted (T.counts self.old.tree) (T.counts self.new.tree) result }
-        ensures whole { IsWhole T.disk self.new }
+        ensures whole { IsWhole T.disk T.counts self.new }
     {
         self.tree.list(self.alloc)
     }
@@ -255,7 +409,7 @@ impl<T: TreeDisk> Book<T> {
         ensures found { IfOk result (λ files. map.get (view (T.disk self.old.tree)) place ≡ Some files) }
         ensures same { IsLooked T.disk self.old self.new }
         ensures counted { IsCounted (T.counts self.old.tree) (T.counts self.new.tree) result }
-        ensures whole { IsWhole T.disk self.new }
+        ensures whole { IsWhole T.disk T.counts self.new }
     {
         self.tree.read(self.alloc, place)
     }
@@ -263,153 +417,18 @@ impl<T: TreeDisk> Book<T> {
     /// The device, for looks.
     pub fn tree(&self) -> &T
         ensures tree { result.now ≡ self.now.tree }
-        ensures whole { IsWhole T.disk self.now }
+        ensures whole { IsWhole T.disk T.counts self.now }
     {
         &self.tree
     }
 
     /// The journal and the device.
     pub fn into_parts(self) -> (Journal, T)
-        ensures journal { result.0.entries ≡ self.entries }
+        ensures journal { result.0.entries ≡ self.ledger.entries }
         ensures tree { result.1 ≡ self.tree }
+        ensures whole { IsWhole T.disk T.counts self }
     {
-        (self.journal, self.tree)
-    }
-
-    /// Begins what waits first for the actor.
-    fn begin(&mut self, actor: Actor) -> Result<(), NoMemory>
-        requires queued { IsSome (map.get self.old.waiting actor) }
-        requires idle { IsNone (map.get self.old.running actor) }
-        requires takes { TakesTurn self.old.power.phase actor }
-        ensures begun { OnOk result (Begins self.old self.new actor) }
-        ensures refused { OnErr result (self.new ≡ self.old) }
-    {
-        let number = waiting::first(&self.waiting, actor);
-        let command = self.commands[number as usize].duplicate(self.alloc)?;
-        let index = self.begun.get(actor).copied().unwrap_or(0);
-        let birth = Birth {
-            boot: self.power.boot,
-            index,
-        };
-        let task = creates::first_task(self.power.phase, &self.places, &command, birth);
-        room_to_begin(&mut self.journal, &mut self.running, &mut self.begun)?;
-        waiting::take_first(self.alloc, &mut self.waiting, actor);
-        self.running
-            .insert(actor, Running { number, task })
-            .unwrap();
-        self.begun.insert(actor, index + 1).unwrap();
-        self.journal.push(Entry::Began {
-            number,
-            actor,
-            command,
-        });
-        Ok(())
-    }
-
-    /// Gives the reply of the actor's command.
-    fn reply(&mut self, actor: Actor, number: u64, reply: Reply) -> Result<(), NoMemory>
-        requires { map.get self.old.running actor ≡ Some (record { number = number; task = Replying reply }) }
-        ensures replied { OnOk result (self.new ≡ after_reply self.old actor number reply) }
-        ensures refused { OnErr result (self.new ≡ self.old) }
-    {
-        self.journal.reserve()?;
-        self.running.remove(actor);
-        self.power.phase = self.power.phase.after_reply(reply);
-        self.journal.push(Entry::Replied { number, reply });
-        Ok(())
-    }
-
-    /// Makes the next call of the actor's create.
-    fn call(&mut self, actor: Actor, number: u64, create: Create) -> Result<(), NoMemory>
-        requires { map.get self.old.running actor ≡ Some (record { number = number; task = Creating create }) }
-        ensures called { OnOk result (Calls T.disk T.counts self.old self.new actor number create) }
-        ensures refused { OnErr result (IsSame T.disk T.counts self.old self.new) }
-    {
-        let in_the_way = places::in_the_way(&self.places, create.user);
-        let call = creates::next_call(self.alloc, self.seed.as_slice(), &create, in_the_way)?;
-        room_to_call(
-            &mut self.journal,
-            &mut self.callers,
-            &mut self.running,
-            &mut self.places,
-            &mut self.pending,
-        )?;
-        let made = calls::make(&mut self.tree, &call)?;
-        self.callers.push(actor).unwrap();
-        power::note(
-            &mut self.power,
-            &mut self.pending,
-            &call,
-            made,
-            creates::makes_change(&create),
-        );
-        let task = settle(
-            &mut self.journal,
-            &mut self.places,
-            &create,
-            number,
-            in_the_way,
-            &call,
-            made,
-        );
-        self.running
-            .insert(actor, Running { number, task })
-            .unwrap();
-        Ok(())
-    }
-
-    /// Makes the next call of the recovery.
-    fn recover(&mut self, actor: Actor, number: u64, recovery: Recovery) -> Result<(), NoMemory>
-        requires { map.get self.old.running actor ≡ Some (record { number = number; task = Recovering recovery }) }
-        ensures recovered { OnOk result (Recovers T.disk T.counts self.old self.new actor number recovery) }
-        ensures refused { OnErr result (IsSame T.disk T.counts self.old self.new) }
-    {
-        room_to_call(
-            &mut self.journal,
-            &mut self.callers,
-            &mut self.running,
-            &mut self.places,
-            &mut self.pending,
-        )?;
-        let made = recoveries::make(self.alloc, &mut self.tree, &mut self.places, recovery)?;
-        self.callers.push(actor).unwrap();
-        let left = recoveries::first_left(&self.places);
-        let task = settle_recovery(
-            &mut self.journal,
-            &mut self.power,
-            &mut self.pending,
-            recovery,
-            left,
-            made,
-        );
-        self.running
-            .insert(actor, Running { number, task })
-            .unwrap();
-        Ok(())
-    }
-
-    /// Whether the machine takes every command: it never stopped, or a recovery ended since it started again.
-    pub fn ready(&self) -> bool
-        ensures ready { IsTrue result ↔ (self.now.power.phase ≡ Up) }
-        ensures whole { IsWhole T.disk self.now }
-    {
-        self.power.phase == Phase::Up
-    }
-
-    /// Whether the machine stopped and didn't start again.
-    pub fn stopped(&self) -> bool
-        ensures stopped { IsTrue result ↔ (self.now.power.phase ≡ Halted) }
-        ensures whole { IsWhole T.disk self.now }
-    {
-        self.power.phase == Phase::Halted
-    }
-
-    /// What was given to `stop`, in order.
-    pub fn orders(&self) -> &[Order]
-        ensures orders { result.now ≡ self.now.orders }
-        ensures whole { IsWhole T.disk self.now }
-    {
-        self.orders.as_slice()
+        (self.ledger.into_journal(), self.tree)
     }
 
     /// The machine stops. Of the operations since the last sync the first `cut.keep` stay, each write with the bytes of its
@@ -419,20 +438,18 @@ impl<T: TreeDisk> Book<T> {
     ///
     /// Where memory ran out, nothing changed.
     pub fn stop(&mut self, cut: Cut) -> Result<(), NoMemory>
-        requires { self.old.power.phase ≢ Halted }
+        requires { self.old.tracker.phase ≢ Halted }
         ensures stopped { OnOk result (IsStopped T.disk T.counts self.old self.new cut) }
         ensures refused { OnErr result (IsSame T.disk T.counts self.old self.new) }
-        ensures whole { IsWhole T.disk self.new }
+        ensures whole { IsWhole T.disk T.counts self.new }
     {
         let order = Order::Stop(cut.duplicate(self.alloc)?);
-        room_to_stop(&mut self.journal, &mut self.orders)?;
-        let kept = self.power.durable + power::kept_changes(self.pending.as_slice(), cut.keep);
+        self.ledger.reserve()?;
+        let kept = self.tracker.survivors(cut.keep);
         self.tree.stop(cut);
-        self.running = SortedMap::new(self.alloc);
-        self.pending.clear();
-        self.power = self.power.halted(kept);
-        self.journal.push(Entry::Stopped { kept });
-        self.orders.push(order).unwrap();
+        self.docket.stop();
+        self.tracker.stop(kept);
+        self.ledger.order(order, Entry::Stopped { kept });
         Ok(())
     }
 
@@ -440,13 +457,13 @@ impl<T: TreeDisk> Book<T> {
     /// The level is the one that the machine has. Full exactly where every number is given out. On a refusal nothing
     /// changes.
     pub fn restart(&mut self, level: u32) -> Result<u64, EnqueueFault>
-        requires stopped { self.old.power.phase ≡ Halted }
-        requires level { level ≡ self.old.power.level }
-        ensures number { IfOk result (λ number. number ≡ length self.old.commands) }
+        requires stopped { self.old.tracker.phase ≡ Halted }
+        requires level { level ≡ self.old.tracker.level }
+        ensures number { IfOk result (λ number. number ≡ length self.old.docket.commands) }
         ensures restarted { OnOk result (IsRestarted T.disk T.counts self.old self.new level) }
         ensures refused { OnErr result (self.new ≡ self.old) }
-        ensures full { (result ≡ Err EnqueueFault.Full) ↔ (length self.old.commands ≡ max_commands) }
-        ensures whole { IsWhole T.disk self.new }
+        ensures full { (result ≡ Err EnqueueFault.Full) ↔ (length self.old.docket.commands ≡ max_commands) }
+        ensures whole { IsWhole T.disk T.counts self.new }
     {
         if self.is_full() {
             return Err(EnqueueFault::Full);
@@ -459,175 +476,77 @@ impl<T: TreeDisk> Book<T> {
 
     /// Starts the stopped machine again, where a number is left for its recovery.
     fn start_again(&mut self, level: u32) -> Result<u64, NoMemory>
-        requires stopped { self.old.power.phase ≡ Halted }
-        requires level { level ≡ self.old.power.level }
-        requires few { length self.old.commands < max_commands }
-        ensures number { IfOk result (λ number. number ≡ length self.old.commands) }
+        requires stopped { self.old.tracker.phase ≡ Halted }
+        requires level { level ≡ self.old.tracker.level }
+        requires few { length self.old.docket.commands < max_commands }
+        ensures number { IfOk result (λ number. number ≡ length self.old.docket.commands) }
         ensures restarted { OnOk result (IsRestarted T.disk T.counts self.old self.new level) }
         ensures refused { OnErr result (self.new ≡ self.old) }
+        ensures whole { IsWhole T.disk T.counts self.new }
     {
-        let number = self.commands.as_slice().len() as u64;
-        let boot = self.power.boot + 1;
-        self.journal.reserve()?;
-        reserve_command(&mut self.commands)?;
-        waiting::add_first(self.alloc, &mut self.waiting, Actor::Boot, number)?;
+        let boot = self.tracker.boot() + 1;
+        self.ledger.reserve()?;
+        let number = self.docket.enqueue_first(Actor::Boot, Command::Recover)?;
         self.tree.restart();
-        self.commands.push(Command::Recover).unwrap();
-        self.begun = SortedMap::new(self.alloc);
-        self.power = self.power.started(boot, level);
-        self.journal.push(Entry::Restarted { boot, level });
+        self.docket.restart();
+        self.tracker.restart(boot, level);
+        self.ledger.enter(Entry::Restarted { boot, level });
         Ok(number)
     }
 }
 
-/// Notes a recovery's call that was made; the answer is what comes next, where `left` is the first place that is left.
-fn settle_recovery(
-    journal: &mut Journal,
-    power: &mut Power,
-    pending: &mut Vec<bool>,
-    recovery: Recovery,
-    left: Option<Place>,
-    made: bool,
-) -> Task
-    requires journal_room { 0 < journal.old.room }
-    requires pending_room { vec_len pending.old < vec_capacity pending.old }
-    requires few { power.old.durable + count_changes pending.old.items < 2 ^ 64 }
-    ensures entries { journal.new.entries ≡ entries_recovered made recovery journal.old.entries }
-    ensures power { power.new ≡ power_recovered made recovery power.old pending.old.items }
-    ensures pending { pending.new.items ≡ pending_recovered made recovery pending.old.items }
-    ensures task { result ≡ task_recovered made left power.new.dirty }
+/// What a command does first that isn't refused.
+fn accepted_task(command: &Command, birth: Birth) -> Task
+    ensures { AcceptedTask command.now birth (user_in command.now) result }
 {
-    if !made {
-        return Task::Reply(Reply::TreeFault);
-    }
-    note_recovery(journal, power, pending, recovery);
-    recoveries::next_task(left, power.dirty)
-}
-
-/// Notes a recovery's call that the device did.
-fn note_recovery(
-    journal: &mut Journal,
-    power: &mut Power,
-    pending: &mut Vec<bool>,
-    recovery: Recovery,
-)
-    requires journal_room { 0 < journal.old.room }
-    requires pending_room { vec_len pending.old < vec_capacity pending.old }
-    requires few { power.old.durable + count_changes pending.old.items < 2 ^ 64 }
-    ensures entries { journal.new.entries ≡ entries_recovered true recovery journal.old.entries }
-    ensures power { power.new ≡ power_recovered true recovery power.old pending.old.items }
-    ensures pending { pending.new.items ≡ pending_recovered true recovery pending.old.items }
-{
-    match recovery {
-        Recovery::List => {}
-        Recovery::Remove(_) => {
-            pending.push(false).unwrap();
-            power.dirty = true;
-        }
-        Recovery::Sync => {
-            power.durable += power::changes_among(pending.as_slice());
-            power.dirty = false;
-            pending.clear();
-            journal.push(Entry::Synced);
-        }
+    match user_tasks::first(command, birth) {
+        Some(task) => Task::User(task),
+        None => Task::Recovery(Recovery::Listing),
     }
 }
 
-/// Takes room for one more entry and one more order.
-fn room_to_stop(journal: &mut Journal, orders: &mut Vec<Order>) -> Result<(), NoMemory>
-    ensures entries { journal.new.entries ≡ journal.old.entries }
-    ensures orders { orders.new.items ≡ orders.old.items }
-    ensures few { OnOk result (length journal.new.entries < 2 ^ 64) }
-    ensures room { OnOk result ((0 < journal.new.room) × (vec_len orders.new < vec_capacity orders.new)) }
+/// A user's next turn as a Book's.
+fn as_user(next: Next<UserTask>) -> Next<Task>
+    ensures { result ≡ as_user next }
 {
-    journal.reserve()?;
-    orders.reserve(1)?;
-    Ok(())
-}
-
-/// Notes a create's call that was made, and follows it where the device did it; the answer is what comes next.
-fn settle(
-    journal: &mut Journal,
-    places: &mut Places,
-    create: &Create,
-    number: u64,
-    in_the_way: Option<Place>,
-    call: &Call,
-    made: bool,
-) -> Task
-    requires journal_room { 0 < journal.old.room }
-    requires places_room { 0 < places.old.room }
-    ensures entries { journal.new.entries ≡ entries_after made journal.old.entries (entry_of create.now number) }
-    ensures places { places_of places.new ≡ places_made made (places_of places.old) call.now }
-    ensures task { result ≡ task_after made create.now in_the_way }
-{
-    if !made {
-        return Task::Reply(Reply::TreeFault);
-    }
-    if let Some(entry) = creates::entry_of(create, number) {
-        journal.push(entry);
-    }
-    places::follow_call(places, call);
-    creates::next_task(create, in_the_way)
-}
-
-/// Takes room for one more entry, one more call, one more place and one more operation.
-fn room_to_call(
-    journal: &mut Journal,
-    callers: &mut Vec<Actor>,
-    running: &mut SortedMap<Actor, Running>,
-    places: &mut Places,
-    pending: &mut Vec<bool>,
-) -> Result<(), NoMemory>
-    ensures entries { journal.new.entries ≡ journal.old.entries }
-    ensures callers { callers.new.items ≡ callers.old.items }
-    ensures running { running.new.rows ≡ running.old.rows }
-    ensures places { places.new.rows ≡ places.old.rows }
-    ensures pending { pending.new.items ≡ pending.old.items }
-    ensures few { OnOk result (length journal.new.entries < 2 ^ 64) }
-    ensures room { OnOk result ((0 < journal.new.room) × (vec_len callers.new < vec_capacity callers.new) × (0 < running.new.room) × (0 < places.new.room) × (vec_len pending.new < vec_capacity pending.new)) }
-{
-    journal.reserve()?;
-    callers.reserve(1)?;
-    running.reserve(1)?;
-    places.reserve(1)?;
-    pending.reserve(1)?;
-    Ok(())
-}
-
-/// The earlier of two actors, where there is one.
-fn earlier(a: Option<Actor>, b: Option<Actor>) -> Option<Actor>
-    ensures { result ≡ earlier_of a b }
-{
-    match (a, b) {
-        (Some(a), Some(b)) => Some(a.min(b)),
-        (Some(a), None) => Some(a),
-        (None, b) => b,
+    match next {
+        Next::Call { call, change, then } => Next::Call {
+            call,
+            change,
+            then: Task::User(then),
+        },
+        Next::Reply(reply) => Next::Reply(reply),
     }
 }
 
-/// Takes room for one more command.
-fn reserve_command(commands: &mut Vec<Command>) -> Result<(), NoMemory>
-    ensures commands { commands.new.items ≡ commands.old.items }
-    ensures room { OnOk result (vec_len commands.new < vec_capacity commands.new) }
+/// A recovery's next turn as a Book's.
+fn as_recovery(next: Next<Recovery>) -> Next<Task>
+    ensures { result ≡ as_recovery next }
 {
-    commands.reserve(1)?;
-    Ok(())
+    match next {
+        Next::Call { call, change, then } => Next::Call {
+            call,
+            change,
+            then: Task::Recovery(then),
+        },
+        Next::Reply(reply) => Next::Reply(reply),
+    }
 }
 
-/// Takes room for one more entry, one more running command and one more actor.
-fn room_to_begin(
-    journal: &mut Journal,
-    running: &mut SortedMap<Actor, Running>,
-    begun: &mut SortedMap<Actor, u32>,
-) -> Result<(), NoMemory>
-    ensures entries { journal.new.entries ≡ journal.old.entries }
-    ensures running { running.new.rows ≡ running.old.rows }
-    ensures begun { begun.new.rows ≡ begun.old.rows }
-    ensures room { OnOk result ((0 < journal.new.room) × (0 < running.new.room) × (0 < begun.new.room)) }
+/// What a call leads to, or that the next turn tells that the device failed.
+fn task_after(made: bool, then: Task) -> Task
+    ensures { result ≡ task_after made then }
 {
-    journal.reserve()?;
-    running.reserve(1)?;
-    begun.reserve(1)?;
-    Ok(())
+    if made { then } else { Task::Fault }
+}
+
+/// The entry of a call, where the device did it and it has one.
+fn made_entry(made: bool, call: &Call, change: Option<LocalChange>, number: u64) -> Option<Entry>
+    ensures { result ≡ made_entry made (entry_of number call.now change) }
+{
+    if made {
+        calls::entry_of(call, change, number)
+    } else {
+        None
+    }
 }

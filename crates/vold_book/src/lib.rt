@@ -1,20 +1,21 @@
-//! The turns of commands: each actor's queue and running command, one counted call of the device a turn, and the journal
-//! of what was done. In every call's contract the surviving tree stands for what the journal says.
+//! A Book: the turns of commands over a tree device, each a beginning, one counted call, or a reply, with the journal of
+//! what was done. In every call's contract the surviving tree stands for what the journal says. Commands are tasks of the
+//! crates below; a Book knows of each what it has to show, and nothing else.
 #![tactic(auto)]
 
 pub mod book;
 pub mod calls;
-pub mod creates;
+pub mod ledger;
+pub mod opened;
 pub mod places;
-pub mod power;
-pub mod recoveries;
+pub mod recovery;
 pub mod run_end;
 pub mod standings;
 pub mod tasks;
 #[cfg(test)]
 mod tests;
+pub mod tracker;
 pub mod turns;
-pub mod waiting;
 
 pub use book::{Book, MAX_COMMANDS};
 pub use run_end::RunEnd;

@@ -1,5 +1,6 @@
-use crate::places::{Places, in_the_way};
-use crate::recoveries::first_left;
+// What commands left half made, in the order in which it is cleared, and where commands stand by a journal.
+
+use crate::places::{Places, first_left, in_the_way};
 use crate::standings::{Standing, stands_in};
 use journal_model::{Actor, Command, Entry, Reply};
 use sorted_map::SortedMap;
@@ -23,6 +24,7 @@ fn removes_what_is_left_in_order(rt: HostRuntime) -> Result<(), Fail> {
         places.remove(place);
     }
     assert_eq!(rt; first_left(&places), None);
+    assert_eq!(rt; in_the_way(&places, 7), None);
     Ok(())
 }
 

@@ -1,5 +1,4 @@
-use crate::tasks::{Create, Recovery};
-use journal_model::Reply;
+use crate::tasks::Running;
 
 /// What a turn did.
 #[derive(Clone, Copy, Debug, PartialEq, Eq)]
@@ -15,10 +14,12 @@ pub enum Turn {
 /// What an actor's next turn does.
 #[derive(Clone, Copy, Debug, PartialEq, Eq)]
 pub enum Step {
+    /// Nothing: the actor has neither a running command nor a queue.
     Idle,
+    /// Nothing: the machine doesn't take the actor's commands now.
     Waits,
+    /// It begins a command.
     Begin,
-    Create(u64, Create),
-    Recover(u64, Recovery),
-    Reply(u64, Reply),
+    /// It goes on with this one.
+    GoOn(Running),
 }

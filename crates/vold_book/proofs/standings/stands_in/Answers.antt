@@ -1,5 +1,5 @@
 use Rattle.std.proofs.Common.{arith}
-use Rattle.vold_book.proofs.Stands.{stands_in-more}
+use Rattle.vold_book.proofs.Entered.{stands_in-more}
 use Rattle.vold_book.proofs.standings.stands_in.Goals as goal
 
 pub loop-entry-preserved : goal.loop-entry-preserved

@@ -1,0 +1,311 @@
+-- A turn that begins a command keeps a Book whole.
+use Rattle.std.proofs.Common.{◌≡◌, ◌≢◌, ℕ, ◌+◌, inl, inr, cond, List, [], ◌∷◌, ◌++◌, refl, sym, ap, ◌∙◌, subst}
+use Rattle.std.specs.Prelude.{Option, Some, None, is_some, IsNone, IsSomeAnd, IfSome, Contains, slice_get, unwrap_or}
+use Rattle.std.specs.Cmp.{nat_cmp_total}
+use Rattle.std.specs.FinMap as map
+use Rattle.std.specs.FinMap.{nat_cmp-IsAntisymmetric}
+use Rattle.std.proofs.lemmas.List.Elements.{Contains-append_left, Contains-push}
+use Rattle.tree_model.specs.declared.places.Place.TheVariants.{De}
+use Rattle.tree_model.specs.Disk.{view}
+use Rattle.tree_model.proofs.Maps.{decide_key, get-insert_same, get-insert_other, tied, apart}
+use Rattle.journal_model.specs.declared.commands.Actor.{Actor}
+use Rattle.journal_model.specs.declared.commands.Actor.TheVariants.{Boot, Cp, User}
+use Rattle.journal_model.specs.declared.commands.Command.{Command}
+use Rattle.journal_model.specs.declared.commands.Command.TheVariants.{Create, Recover}
+use Rattle.journal_model.specs.declared.commands.Reply.{Reply}
+use Rattle.journal_model.specs.declared.commands.Reply.TheVariants.{Ready}
+use Rattle.journal_model.specs.declared.entries.Birth.{Birth}
+use Rattle.journal_model.specs.declared.entries.Entry.{Entry}
+use Rattle.journal_model.specs.declared.entries.Entry.TheVariants.{Began}
+use Rattle.journal_model.specs.declared.phase.Phase.{Phase}
+use Rattle.journal_model.specs.declared.phase.Phase.TheVariants.{Up, Down, Halted}
+use Rattle.journal_model.specs.Actor.{actor_cmp, actor_total, actor_exact}
+use Rattle.journal_model.specs.Command.{actor_of, user_in_actor, user_in}
+use Rattle.journal_model.specs.Refusals.{refusal_of, due}
+use Rattle.journal_model.specs.Machine.{Machine, Running as BeganCommand, after_entry, begun, begun_by, numbers_begun}
+use Rattle.journal_model.specs.Machine.{is_up, is_present, facts_of, verdict_of, TakesTurn}
+use Rattle.journal_model.proofs.RefusalKinds.{refusal-kind}
+use Rattle.journal_model.proofs.Steps.{machine_after-append, legal-append, begun_by-append, numbers_begun-append}
+use Rattle.journal_model.specs.Users.{fold_changes}
+use Rattle.docket.specs.Accounts.{Accounted}
+use Rattle.docket.specs.Docket.{after_begin, begun_by as docket_begun}
+use Rattle.docket.proofs.Accounts.{accounted-begun, first-fresh}
+use Rattle.user_world.specs.OwnWorlds.{own_record}
+use Rattle.user_world.specs.Timelines.{own_of}
+use Rattle.user_tasks.specs.Tasks.{user_of, rest_of, accepted}
+use Rattle.user_world.specs.Turns.{Rests}
+use Rattle.key_directory.proofs.Standing.{there-record, there-user}
+use Rattle.vold_book.specs.declared.tasks.Running.{Running}
+use Rattle.vold_book.specs.Places.{KnowsPlaces}
+use Rattle.vold_book.specs.State.{Docket, Plain, machine_of, timeline, ground_of}
+use Rattle.vold_book.specs.Tasks.{TaskStands, RunsOn}
+use Rattle.vold_book.specs.Turns.{Begins, user_there, facts_in, AcceptedTask, FirstTask}
+use Rattle.vold_book.specs.Whole.{WasGiven, Numbers, PhaseStands, IsCharged, Whole}
+use Rattle.vold_book.proofs.Moves.{some_same, whole-of, at_actors}
+use Rattle.vold_book.proofs.Numbers.{all_given-append}
+use Rattle.vold_book.proofs.UserTurns.{not_boot}
+
+-- only a recovery is for no user
+no-user : (command : Command) → user_in command ≡ None → command ≡ Recover
+no-user (Create user) e = cc
+no-user Recover e = refl
+
+of-user : (command : Command) (user : ℕ) → user_in command ≡ Some user → actor_of command ≡ User user
+of-user command user is = by (actor_of command) is
+  where
+    by : (actor : Actor) → user_in_actor actor ≡ Some user → actor ≡ User user
+    by Boot e = cc
+    by Cp e = cc
+    by (User other) e = ap User (some_same other user e)
+
+pub none_of : {A : Type 0} (found : Option A) → IsNone found → found ≡ None
+none_of None none = refl
+none_of (Some a) none = cc
+
+ready-down : (phase : Phase) → TakesTurn phase Boot → due (is_up phase) Ready ≡ None → phase ≡ Down
+ready-down Up takes none = cc
+ready-down Down takes none = refl
+ready-down Halted takes none = absurd takes
+
+module _ (book : Plain) (actor : Actor) (after : Plain) (whole : Whole book) (idle : IsNone (map.get book.docket.running actor))
+    (takes : TakesTurn book.tracker.phase actor) (begins : Begins book after actor)
+    (own : actor_of begins.command ≡ actor) where
+  abbrev machine : Machine
+  machine = machine_of book
+
+  abbrev entry : Entry
+  entry = Began begins.number actor begins.command
+
+  abbrev machine' : Machine
+  machine' = after_entry book.ledger.entries machine entry
+
+  abbrev began : BeganCommand
+  began = begun book.ledger.entries machine begins.command
+
+  -- the Book knows what decides the refusal
+  facts-agree : facts_in book begins.command ≡ facts_of machine begins.command
+  facts-agree = λ i. record {
+    present = there (user_in begins.command) refl i;
+    ready = is_up (sym whole.agrees.phase i);
+  }
+    where
+      up-of : (user : ℕ) (phase : Phase) → TakesTurn phase actor → actor ≡ User user → PhaseStands phase book machine
+          → KnowsPlaces book.places (view book.tree.disk)
+      up-of user Up takes is stands = stands
+      up-of user Down takes is stands = absurd (not_boot user (sym takes ∙ is))
+      up-of user Halted takes is stands = absurd takes
+
+      there : (of : Option ℕ) → user_in begins.command ≡ of
+          → user_there book.places of ≡ is_present of (fold_changes machine.log)
+      there None is = refl
+      there (Some user) is =
+          up-of user book.tracker.phase takes (sym own ∙ of-user begins.command user is) whole.phase (De user)
+          ∙ there-user book.seed (timeline book.tree.disk machine) user whole.worlds
+
+  verdict-is : refusal_of begins.command (facts_in book begins.command) ≡ verdict_of machine begins.command
+  verdict-is = ap (refusal_of begins.command) facts-agree
+
+  -- a command that begins stands where its first task says
+  first-stands : (verdict : Option Reply) → refusal_of begins.command (facts_in book begins.command) ≡ verdict
+      → FirstTask begins.command (record { boot = book.tracker.boot; index = docket_begun book.docket actor }) verdict begins.task
+      → TaskStands (ground_of book) begins.task began
+  first-stands (Some reply) is first =
+      subst (λ t. TaskStands (ground_of book) t began) (sym first)
+      (sym verdict-is ∙ is, refusal-kind begins.command (facts_in book begins.command) reply is)
+  first-stands None is first = by (user_in begins.command) refl first
+    where
+      birth : Birth
+      birth = record { boot = book.tracker.boot; index = docket_begun book.docket actor }
+
+      none : began.verdict ≡ None
+      none = sym verdict-is ∙ is
+
+      index : docket_begun book.docket actor ≡ begun_by (actor_of begins.command) book.ledger.entries
+      index = whole.numbers.counts actor ∙ ap (λ a. begun_by a book.ledger.entries) (sym own)
+
+      same_began : accepted begins.command (docket_begun book.docket actor) ≡ began
+      same_began = λ i. record { command = begins.command; verdict = sym none i; changes = []; index = index i }
+
+      by : (of : Option ℕ) → user_in begins.command ≡ of → AcceptedTask begins.command birth of begins.task
+          → TaskStands (ground_of book) begins.task began
+      by (Some user) of (first, is_first, shows) =
+          let line = timeline book.tree.disk machine in
+          let mine : user ≡ user_of first = some_same user (user_of first) (sym of ∙ shows.owned) in
+          let present : (facts_in book begins.command).present ≡ is_some (own_record (own_of (user_of first) line)) =
+          ap (λ f. f.present) facts-agree ∙ ap (λ o. is_present o (fold_changes machine.log)) shows.owned
+          ∙ sym (there-user book.seed line (user_of first) whole.worlds) ∙ sym (there-record book.seed line (user_of first) whole.worlds) in
+          subst (λ t. TaskStands (ground_of book) t began) (sym is_first)
+          (subst (λ b. Rests (rest_of book.seed first) b began (own_of (user_of first) line)) (sym whole.agrees.boot)
+          (subst (λ b. Rests (rest_of book.seed first) book.tracker.boot b (own_of (user_of first) line)) same_began
+          (shows.rests book.seed (facts_in book begins.command) (own_of (user_of first) line) present is)))
+      by None of first =
+          let recovers = no-user begins.command of in
+          let boot : actor ≡ Boot = sym own ∙ ap actor_of recovers in
+          subst (λ t. TaskStands (ground_of book) t began) (sym first) (
+            record { command = recovers; verdict = none },
+            whole.agrees.phase
+                ∙ ready-down book.tracker.phase (subst (TakesTurn book.tracker.phase) boot takes)
+                (subst (λ c. refusal_of c (facts_in book begins.command) ≡ None) recovers is),
+          )
+
+  abbrev mine : Running
+  mine = record { number = begins.number; task = begins.task }
+
+  abbrev running' : map.FinMap actor_cmp Running
+  running' = map.insert book.docket.running actor mine
+
+  abbrev docket' : Docket
+  docket' = after_begin book.docket actor begins.numbers mine
+
+  here : map.get running' actor ≡ Some mine
+  here = get-insert_same actor_total actor_exact book.docket.running actor mine
+
+  there : (other : Actor) → other ≢ actor → map.get running' other ≡ map.get book.docket.running other
+  there other differ = get-insert_other actor_total actor_exact book.docket.running actor mine other differ
+
+  on_here : map.get machine'.running begins.number ≡ Some began
+  on_here = get-insert_same nat_cmp_total nat_cmp-IsAntisymmetric machine.running begins.number began
+
+  on_other : (n : ℕ) → n ≢ begins.number → map.get machine'.running n ≡ map.get machine.running n
+  on_other n differ = get-insert_other nat_cmp_total nat_cmp-IsAntisymmetric machine.running begins.number began n differ
+
+  no_work : map.get book.docket.running actor ≡ None
+  no_work = none_of (map.get book.docket.running actor) idle
+
+  fresh : ¬ (Contains (numbers_begun book.ledger.entries) begins.number)
+  fresh = first-fresh actor_total actor_exact actor_of book.docket (numbers_begun book.ledger.entries) whole.numbers.accounted
+      actor begins.number begins.numbers begins.queued
+
+  -- no command of the actor is on the machine
+  nothing-on : (n : ℕ) (b : BeganCommand) → map.get machine.running n ≡ Some b → actor_of b.command ≢ actor
+  nothing-on n b at same = subst (λ found. IsSomeAnd found (λ o. o.number ≡ n)) (ap (map.get book.docket.running) same ∙ no_work)
+      (whole.all n b at)
+
+  if-nothing-on : (n : ℕ) (found : Option BeganCommand) → map.get machine.running n ≡ found
+      → IfSome found (λ b. actor_of b.command ≢ actor)
+  if-nothing-on n None at = tt
+  if-nothing-on n (Some b) at = nothing-on n b at
+
+  -- what runs has another number
+  not-fresh : (other : Actor) (o : Running) → map.get book.docket.running other ≡ Some o → o.number ≢ begins.number
+  not-fresh other o at same =
+      let run = whole.run other o at in
+      fresh (subst (Contains (numbers_begun book.ledger.entries)) same (whole.numbers.given o.number run.began run.at).begun)
+
+  abbrev begun_now : List ℕ
+  begun_now = numbers_begun book.ledger.entries ++ begins.number ∷ []
+
+  numbers-are : numbers_begun (book.ledger.entries ++ entry ∷ []) ≡ begun_now
+  numbers-are = numbers_begun-append book.ledger.entries entry
+
+  given-now : (n : ℕ) (b : BeganCommand) → map.get machine'.running n ≡ Some b
+      → WasGiven docket' (book.ledger.entries ++ entry ∷ []) n b
+  given-now n b at = elim (decide_key nat_cmp_total nat_cmp-IsAntisymmetric n begins.number) [
+    | inl same ↦
+        let own : b ≡ began = some_same b began (sym at ∙ ap (map.get machine'.running) same ∙ on_here) in record {
+          given = ap (slice_get book.docket.commands) same ∙ begins.given ∙ ap Some (sym (ap (λ r. r.command) own));
+          begun = subst (λ ns. Contains ns n) (sym numbers-are)
+              (subst (Contains begun_now) (sym same) (Contains-push (numbers_begun book.ledger.entries) begins.number));
+        }
+    | inr differ ↦
+        let was = whole.numbers.given n b (sym (on_other n differ) ∙ at) in record {
+          given = was.given;
+          begun = subst (λ ns. Contains ns n) (sym numbers-are)
+              (Contains-append_left (numbers_begun book.ledger.entries) (begins.number ∷ []) n was.begun);
+        }
+  ]
+
+  counts-now : (other : Actor) → docket_begun docket' other ≡ begun_by other (book.ledger.entries ++ entry ∷ [])
+  counts-now = at_actors actor _
+      (ap (λ found. unwrap_or found 0) (get-insert_same actor_total actor_exact book.docket.begun actor _)
+      ∙ ap (λ n. n + 1) (whole.numbers.counts actor) ∙ sym (begun_by-append actor book.ledger.entries entry
+      ∙ ap (λ t. cond t (begun_by actor book.ledger.entries + 1) (begun_by actor book.ledger.entries))
+      (tied actor_total actor_exact actor actor refl)))
+      (λ other differ. ap (λ found. unwrap_or found 0)
+      (get-insert_other actor_total actor_exact book.docket.begun actor _ other differ) ∙ whole.numbers.counts other
+      ∙ sym (begun_by-append other book.ledger.entries entry
+      ∙ ap (λ t. cond t (begun_by other book.ledger.entries + 1) (begun_by other book.ledger.entries))
+      (apart actor_total actor_exact other actor differ)))
+
+  numbers-now : Numbers docket' (book.ledger.entries ++ entry ∷ []) machine'
+  numbers-now = record {
+    accounted = subst (λ ns. Accounted actor_of ns docket') (sym numbers-are)
+        (accounted-begun actor_total actor_exact actor_of book.docket (numbers_begun book.ledger.entries)
+        whole.numbers.accounted actor begins.number begins.numbers begins.queued mine);
+    as_given = all_given-append book.docket.commands book.ledger.entries entry whole.numbers.as_given (begins.given, sym own);
+    given = given-now;
+    counts = counts-now;
+    boots = whole.numbers.boots;
+    few = whole.numbers.few;
+  }
+
+  run-now : (other : Actor) → other ≢ actor → (o : Running) → map.get running' other ≡ Some o
+      → RunsOn (ground_of book) machine' other o
+  run-now other differ o at =
+      let was : map.get book.docket.running other ≡ Some o = sym (there other differ) ∙ at in
+      let run = whole.run other o was in record {
+        began = run.began;
+        at = on_other o.number (not-fresh other o was) ∙ run.at;
+        own = run.own;
+        stands = run.stands;
+      }
+
+  all-now : (n : ℕ) (b : BeganCommand) → map.get machine'.running n ≡ Some b
+      → IsSomeAnd (map.get running' (actor_of b.command)) (λ o. o.number ≡ n)
+  all-now n b at = elim (decide_key nat_cmp_total nat_cmp-IsAntisymmetric n begins.number) [
+    | inl same ↦
+        let is : b ≡ began = some_same b began (sym at ∙ ap (map.get machine'.running) same ∙ on_here) in
+        subst (λ a. IsSomeAnd (map.get running' a) (λ o. o.number ≡ n)) (sym (ap (λ r. actor_of r.command) is ∙ own))
+        (subst (λ found. IsSomeAnd found (λ o. o.number ≡ n)) (sym here) (sym same))
+    | inr differ ↦
+        let was : map.get machine.running n ≡ Some b = sym (on_other n differ) ∙ at in
+        subst (λ found. IsSomeAnd found (λ o. o.number ≡ n)) (sym (there (actor_of b.command) (nothing-on n b was)))
+        (whole.all n b was)
+  ]
+
+  abbrev after_begins : Plain
+  after_begins = record book {
+    ledger = record book.ledger { entries = book.ledger.entries ++ entry ∷ [] };
+    docket = docket';
+  }
+
+  stands-now : (phase : Phase) → TakesTurn phase actor → PhaseStands phase book machine
+      → PhaseStands phase after_begins machine'
+  stands-now Up takes stands = stands
+  stands-now Down takes stands = (
+    stands.0,
+    at_actors actor (λ a. (o : Running) → map.get running' a ≡ Some o → a ≡ Boot) (λ o at. takes)
+        (λ other differ o at. stands.1 other o (sym (there other differ) ∙ at)),
+  )
+  stands-now Halted takes stands = absurd takes
+
+  -- so the Book is whole, where the charges are
+  pub whole-begun : IsCharged after_begins → Whole after_begins
+  whole-begun charged =
+      whole-of after_begins machine' (machine_after-append book.ledger.entries entry)
+      (legal-append book.ledger.entries entry whole.legal (record {
+        own = sym own;
+        idle = λ n. if-nothing-on n (map.get machine.running n) refl;
+        fresh = fresh;
+        takes = subst (λ p. TakesTurn p actor) (sym whole.agrees.phase) takes;
+      })) whole.short charged (record {
+        agrees = record {
+          phase = whole.agrees.phase;
+          boot = whole.agrees.boot;
+          level = whole.agrees.level;
+          durable = whole.agrees.durable;
+          pending = whole.agrees.pending;
+        };
+        worlds = whole.worlds;
+        numbers = numbers-now;
+        run = at_actors actor (λ a. (o : Running) → map.get running' a ≡ Some o → RunsOn (ground_of book) machine' a o)
+            (λ o at. subst (RunsOn (ground_of book) machine' actor) (some_same mine o (sym here ∙ at)) (record {
+              began = began;
+              at = on_here;
+              own = own;
+              stands = first-stands (refusal_of begins.command (facts_in book begins.command)) refl begins.first;
+            }))
+            run-now;
+        all = all-now;
+        phase = stands-now book.tracker.phase takes whole.phase;
+      })

@@ -1,0 +1,267 @@
+-- The one theorem of turns: a call, made or failed, that leaves what it has to keeps a Book whole, for any task.
+use Rattle.std.proofs.Common.{◌≡◌, ◌≢◌, ℕ, inl, inr, List, length, refl, sym, ap, ◌∙◌, subst, arith}
+use Rattle.std.specs.Prelude.{◌≤◌, Option, Some, None, is_some, IsSomeAnd, IfSome, Contains, slice_get}
+use Rattle.std.specs.Cmp.{nat_cmp_total}
+use Rattle.std.specs.FinMap as map
+use Rattle.std.specs.FinMap.{nat_cmp-IsAntisymmetric}
+use Rattle.tree_model.specs.Disk.{view}
+use Rattle.tree_model.proofs.Maps.{decide_key, get-insert_same, get-insert_other}
+use Rattle.journal_model.specs.declared.commands.Actor.{Actor}
+use Rattle.journal_model.specs.declared.commands.Actor.TheVariants.{Boot}
+use Rattle.journal_model.specs.declared.entries.Entry.{Entry}
+use Rattle.journal_model.specs.declared.phase.Phase.{Phase}
+use Rattle.journal_model.specs.declared.phase.Phase.TheVariants.{Up, Down, Halted}
+use Rattle.journal_model.specs.Actor.{actor_cmp, actor_total, actor_exact}
+use Rattle.journal_model.specs.Command.{actor_of}
+use Rattle.journal_model.specs.Machine.{Machine, Running as BeganCommand, IsLegal, IsDurable, machine_after, numbers_begun}
+use Rattle.journal_model.proofs.Steps.{machine_after-append, legal-append}
+use Rattle.user_world.specs.declared.changes.LocalChange.{LocalChange}
+use Rattle.user_world.specs.declared.turns.Call.{Call}
+use Rattle.user_world.specs.Timelines.{OwnWorldsStand}
+use Rattle.user_world.proofs.Timelines.{line-images}
+use Rattle.key_directory.specs.Rehearsal.{rehearsal}
+use Rattle.vold_book.specs.declared.tasks.Running.{Running}
+use Rattle.vold_book.specs.declared.tasks.Task.{Task}
+use Rattle.vold_book.specs.Calls.{entry_of, machine_with, may_with}
+use Rattle.vold_book.specs.Parts.{TrackerState, Agrees, with_entry, noted}
+use Rattle.vold_book.specs.Places.{PlaceMap, KnowsPlaces}
+use Rattle.vold_book.specs.Recovery.{Ground}
+use Rattle.vold_book.specs.State.{Plain, Device, machine_of, timeline, ground_at, ground_of}
+use Rattle.vold_book.specs.Tasks.{TaskStands, RunsOn}
+use Rattle.vold_book.specs.Turns.{Called, task_after, made_entry}
+use Rattle.vold_book.specs.Whole.{WasGiven, Numbers, PhaseStands, IsCharged, Whole}
+use Rattle.vold_book.proofs.Numbers.{IsQuiet, numbers-quiet, numbers-running}
+
+pub some_same : {A : Type 0} (a b : A) → Some a ≡ Some b → a ≡ b
+some_same a b e = cc
+
+pub no_some : {A : Type 0} (a : A) → None ≡ Some a → ⊥
+no_some a e = cc
+
+-- what stands of a Book on a machine
+pub record Core (book : Plain) (machine : Machine) : Type 0 where
+  pub agrees : Agrees book.tracker machine book.tree.disk
+  pub worlds : OwnWorldsStand (rehearsal book.seed) (timeline book.tree.disk machine)
+  pub numbers : Numbers book.docket book.ledger.entries machine
+  pub run : (actor : Actor) (it : Running) → map.get book.docket.running actor ≡ Some it
+      → RunsOn (ground_at book.seed book.tree.disk machine book.places) machine actor it
+  pub all : (number : ℕ) (began : BeganCommand) → map.get machine.running number ≡ Some began
+      → IsSomeAnd (map.get book.docket.running (actor_of began.command)) (λ it. it.number ≡ number)
+  pub phase : PhaseStands book.tracker.phase book machine
+
+pub core-of : (book : Plain) → Whole book → Core book (machine_of book)
+core-of book whole = record {
+  agrees = whole.agrees;
+  worlds = whole.worlds;
+  numbers = whole.numbers;
+  run = whole.run;
+  all = whole.all;
+  phase = whole.phase;
+}
+
+pub whole-of : (book : Plain) (machine : Machine) → machine_of book ≡ machine → IsLegal book.ledger.entries
+    → length book.seed ≤ 64 → IsCharged book → Core book machine → Whole book
+whole-of book machine is legal short charged core =
+    let here : Core book (machine_of book) = subst (Core book) (sym is) core in record {
+      legal = legal;
+      agrees = here.agrees;
+      short = short;
+      images = line-images (rehearsal book.seed) (timeline book.tree.disk (machine_of book)) here.worlds;
+      worlds = here.worlds;
+      numbers = here.numbers;
+      run = here.run;
+      all = here.all;
+      phase = here.phase;
+      charged = charged;
+    }
+
+module _ (entries : List Entry) where
+  pub legal-with : (entry : Option Entry) → IsLegal entries → may_with entries (machine_after entries) entry
+      → IsLegal (with_entry entries entry)
+  legal-with None legal may = legal
+  legal-with (Some entry) legal may = legal-append entries entry legal may
+
+  pub machine-with : (entry : Option Entry)
+      → machine_after (with_entry entries entry) ≡ machine_with entries (machine_after entries) entry
+  machine-with None = refl
+  machine-with (Some entry) = machine_after-append entries entry
+
+-- what holds of one actor and of all others holds of each
+pub at_actors : (actor : Actor) (P : Actor → Type 0) → P actor → ((other : Actor) → other ≢ actor → P other)
+    → (a : Actor) → P a
+at_actors actor P here others a = elim (decide_key actor_total actor_exact a actor) [
+  | inl same ↦ subst P (sym same) here
+  | inr differ ↦ others a differ
+]
+
+-- two actors don't run the same number
+pub runs_apart : (machine : Machine) (actor other : Actor) (it o : Running) (g h : _)
+    → RunsOn g machine actor it → RunsOn h machine other o → other ≢ actor → o.number ≢ it.number
+runs_apart machine actor other it o g h mine theirs differ same =
+    let one : theirs.began ≡ mine.began =
+    some_same theirs.began mine.began (sym theirs.at ∙ ap (map.get machine.running) same ∙ mine.at) in
+    differ (sym theirs.own ∙ ap (λ b. actor_of b.command) one ∙ mine.own)
+
+-- what a call leaves: the device, the tracker, the known places, and what the actor runs, with the call's entry
+pub record After : Type 0 where
+  pub tree : Device
+  pub tracker : TrackerState
+  pub places : PlaceMap
+  pub task : Task
+  pub entry : Option Entry
+
+-- the machine and the ground then
+abbrev pub machine_then : Plain → After → Machine
+machine_then book after = machine_with book.ledger.entries (machine_of book) after.entry
+
+abbrev pub ground_then : Plain → After → Ground
+ground_then book after = ground_at book.seed after.tree.disk (machine_then book after) after.places
+
+-- what it has to leave, so that the Book is whole
+pub record Moves (book : Plain) (actor : Actor) (number : ℕ) (after : After) : Type 0 where
+  pub may : may_with book.ledger.entries (machine_of book) after.entry
+  pub quiet : IfSome after.entry IsQuiet
+  pub agrees : Agrees after.tracker (machine_then book after) after.tree.disk
+  pub worlds : OwnWorldsStand (rehearsal book.seed) (timeline after.tree.disk (machine_then book after))
+  pub boot : (machine_then book after).boot ≡ (machine_of book).boot
+  -- the actor's own command, and the others
+  pub mine : RunsOn (ground_then book after) (machine_then book after) actor (record { number = number; task = after.task })
+  pub on_machine : (n : ℕ) → n ≢ number
+      → map.get (machine_then book after).running n ≡ map.get (machine_of book).running n
+  pub same_command : (began : BeganCommand) → map.get (machine_of book).running number ≡ Some began
+      → mine.began.command ≡ began.command
+  pub others : (other : Actor) (o : Running) → other ≢ actor → map.get book.docket.running other ≡ Some o
+      → (began : BeganCommand) → actor_of began.command ≡ other → TaskStands (ground_of book) o.task began
+      → TaskStands (ground_then book after) o.task began
+  -- the phase, and what stands by it
+  pub phase : after.tracker.phase ≡ book.tracker.phase
+  pub up : book.tracker.phase ≡ Up → KnowsPlaces after.places (view after.tree.disk)
+  pub durable : book.tracker.phase ≡ Down → IsDurable (machine_of book) None → IsDurable (machine_then book after) None
+
+-- what a call of a task leaves, by what it left of the device and the known places
+abbrev pub after_of : Plain → ℕ → Call → Option LocalChange → Task → Called Device → After
+after_of book number call change then called = record {
+  tree = called.tree;
+  tracker = noted called.made call (is_some change) book.tracker;
+  places = called.places;
+  task = task_after called.made then;
+  entry = made_entry called.made (entry_of number call change);
+}
+
+-- the Book then
+abbrev pub moved : Plain → Actor → ℕ → List Actor → After → Plain
+moved book actor number callers after = record book {
+  tree = after.tree;
+  ledger = record book.ledger { entries = with_entry book.ledger.entries after.entry; callers = callers };
+  docket = record book.docket {
+    running = map.insert book.docket.running actor (record { number = number; task = after.task });
+  };
+  tracker = after.tracker;
+  places = after.places;
+}
+
+module _ (book : Plain) (actor : Actor) (it : Running) (callers : List Actor) (after : After)
+    (whole : Whole book) (runs : map.get book.docket.running actor ≡ Some it) (moves : Moves book actor it.number after) where
+  abbrev then : Machine
+  then = machine_then book after
+
+  abbrev it_then : Running
+  it_then = record { number = it.number; task = after.task }
+
+  abbrev running_then : map.FinMap actor_cmp Running
+  running_then = map.insert book.docket.running actor it_then
+
+  here : map.get running_then actor ≡ Some it_then
+  here = get-insert_same actor_total actor_exact book.docket.running actor it_then
+
+  there : (other : Actor) → other ≢ actor → map.get running_then other ≡ map.get book.docket.running other
+  there other differ = get-insert_other actor_total actor_exact book.docket.running actor it_then other differ
+
+  mine_before : RunsOn (ground_of book) (machine_of book) actor it
+  mine_before = whole.run actor it runs
+
+  -- a command on the machine is one that was given, as before
+  given-then : (n : ℕ) (began : BeganCommand) → map.get then.running n ≡ Some began
+      → WasGiven book.docket book.ledger.entries n began
+  given-then n began at = elim (decide_key nat_cmp_total nat_cmp-IsAntisymmetric n it.number) [
+    | inl same ↦
+        let own : began ≡ moves.mine.began = some_same began moves.mine.began (sym at ∙ ap (map.get then.running) same ∙ moves.mine.at) in
+        let was = whole.numbers.given it.number mine_before.began mine_before.at in record {
+          given = ap (slice_get book.docket.commands) same ∙ was.given
+              ∙ ap Some (sym (ap (λ b. b.command) own ∙ moves.same_command mine_before.began mine_before.at));
+          begun = subst (Contains (numbers_begun book.ledger.entries)) (sym same) was.begun;
+        }
+    | inr differ ↦ whole.numbers.given n began (sym (moves.on_machine n differ) ∙ at)
+  ]
+
+  numbers-then : (entry : Option Entry) → after.entry ≡ entry → IfSome entry IsQuiet
+      → Numbers book.docket (with_entry book.ledger.entries entry) then
+  numbers-then None is quiet = record {
+    accounted = whole.numbers.accounted;
+    as_given = whole.numbers.as_given;
+    given = given-then;
+    counts = whole.numbers.counts;
+    boots = let was = whole.numbers.boots in let same = moves.boot in omega (arith, was, same);
+    few = whole.numbers.few;
+  }
+  numbers-then (Some entry) is quiet =
+      numbers-quiet book.docket book.ledger.entries (machine_of book) entry quiet then whole.numbers moves.boot given-then
+
+  kept-run : (other : Actor) → other ≢ actor → (o : Running) → map.get running_then other ≡ Some o
+      → RunsOn (ground_then book after) then other o
+  kept-run other differ o at =
+      let was : map.get book.docket.running other ≡ Some o = sym (there other differ) ∙ at in
+      let run = whole.run other o was in
+      let apart = runs_apart (machine_of book) actor other it o _ _ mine_before run differ in record {
+        began = run.began;
+        at = moves.on_machine o.number apart ∙ run.at;
+        own = run.own;
+        stands = moves.others other o differ was run.began run.own run.stands;
+      }
+
+  all-then : (n : ℕ) (began : BeganCommand) → map.get then.running n ≡ Some began
+      → IsSomeAnd (map.get running_then (actor_of began.command)) (λ o. o.number ≡ n)
+  all-then n began at = elim (decide_key nat_cmp_total nat_cmp-IsAntisymmetric n it.number) [
+    | inl same ↦
+        let own : began ≡ moves.mine.began = some_same began moves.mine.began (sym at ∙ ap (map.get then.running) same ∙ moves.mine.at) in
+        subst (λ a. IsSomeAnd (map.get running_then a) (λ o. o.number ≡ n)) (sym (ap (λ b. actor_of b.command) own ∙ moves.mine.own))
+        (subst (λ found. IsSomeAnd found (λ o. o.number ≡ n)) (sym here) (sym same))
+    | inr differ ↦ at_actors actor
+        (λ a. actor_of began.command ≡ a → IsSomeAnd (map.get running_then a) (λ o. o.number ≡ n))
+        (λ own. absurd (differ (sym (alone (subst (λ a. IsSomeAnd (map.get book.docket.running a) (λ o. o.number ≡ n)) own
+        (whole.all n began (sym (moves.on_machine n differ) ∙ at)))))))
+        (λ other apart own. subst (λ found. IsSomeAnd found (λ o. o.number ≡ n)) (sym (there other apart))
+        (subst (λ a. IsSomeAnd (map.get book.docket.running a) (λ o. o.number ≡ n)) own
+        (whole.all n began (sym (moves.on_machine n differ) ∙ at))))
+        (actor_of began.command) refl
+  ]
+    where
+      alone : IsSomeAnd (map.get book.docket.running actor) (λ o. o.number ≡ n) → it.number ≡ n
+      alone h = subst (λ found. IsSomeAnd found (λ o. o.number ≡ n)) runs h
+
+  stands-then : (phase : Phase) → book.tracker.phase ≡ phase → PhaseStands phase book (machine_of book)
+      → PhaseStands phase (moved book actor it.number callers after) then
+  stands-then Up is stands = moves.up is
+  stands-then Down is stands = (
+    moves.durable is stands.0,
+    at_actors actor (λ a. (o : Running) → map.get running_then a ≡ Some o → a ≡ Boot)
+        (λ o at. stands.1 actor it runs) (λ other differ o at. stands.1 other o (sym (there other differ) ∙ at)),
+  )
+  stands-then Halted is stands =
+      absurd (no_some it (sym (map.get-empty actor_cmp actor) ∙ ap (λ m. map.get m actor) (sym stands.2) ∙ runs))
+
+  -- so the Book is whole, where the charges are
+  pub whole-moved : IsCharged (moved book actor it.number callers after) → Whole (moved book actor it.number callers after)
+  whole-moved charged =
+      whole-of (moved book actor it.number callers after) then (machine-with book.ledger.entries after.entry)
+      (legal-with book.ledger.entries after.entry whole.legal moves.may) whole.short charged (record {
+        agrees = moves.agrees;
+        worlds = moves.worlds;
+        numbers = numbers-running book.docket (with_entry book.ledger.entries after.entry) then running_then
+            (numbers-then after.entry refl moves.quiet);
+        run = at_actors actor _
+            (λ o at. subst (RunsOn (ground_then book after) then actor) (some_same it_then o (sym here ∙ at)) moves.mine) kept-run;
+        all = all-then;
+        phase = subst (λ p. PhaseStands p (moved book actor it.number callers after) then) (sym moves.phase)
+            (stands-then book.tracker.phase refl whole.phase);
+      })
