@@ -1,13 +1,26 @@
 -- Lines that plan a fault, and lines that don't, by their words.
-use Rattle.std.proofs.Common.{◌≡◌, ◌≢◌, ℕ, ◌<◌, ◌≤◌, ◌^◌, List, [], ◌∷◌, sym, ap, ◌∙◌, arith}
+use Rattle.std.proofs.Common.{◌≡◌, ◌≢◌, ℕ, ◌<◌, ◌≤◌, ◌^◌, List, [], ◌∷◌, get_or, sym, ap, ◌∙◌, arith}
 use Rattle.std.specs.Prelude.{Option, Some, None, codes}
 use Rattle.script_text.specs.Reading.{Reads, words_in, words_after}
 use Rattle.script_text.specs.Words.{decimal}
-use Rattle.script_text.proofs.Splits.{only_word}
-use Rattle.script_text.proofs.ByWord.{number_alone, same_number}
+use Rattle.script_text.proofs.Splits.{joined-words_in, words_in-alone}
+use Rattle.script_text.proofs.Ink.{Lacks-ink, IsInk-decimal}
+use Rattle.std.proofs.lemmas.Fmt.{decimal_injective}
+use Rattle.std.proofs.lemmas.List.{append-nil}
+use Rattle.script_text.specs.Words.{joined}
 use Rattle.vold_cases.specs.declared.case.Device.{Device}
 use Rattle.vold_cases.specs.declared.case.Planned.{Planned}
 use Rattle.vold_cases.specs.Case.{IsPlanned, device_word, fault_words}
+
+-- a text of one word is that word
+only_word : (text word : List ℕ) → words_in text ≡ word ∷ [] → text ≡ word
+only_word text word e = sym (joined-words_in text) ∙ ap joined e ∙ append-nil word
+
+number_alone : (text : List ℕ) (n : ℕ) → n < 2 ^ 32 → text ≡ decimal n → words_in text ≡ decimal n ∷ []
+number_alone text n small e = ap words_in e ∙ words_in-alone (decimal n) (Lacks-ink 32 (decimal n) (omega arith) (IsInk-decimal n small))
+
+same_number : (m n : ℕ) → m < 2 ^ 32 → n < 2 ^ 32 → decimal m ∷ [] ≡ decimal n ∷ [] → m ≡ n
+same_number m n small little e = decimal_injective m n (omega arith) (omega arith) (ap (λ ws. get_or ws 0 []) e)
 
 -- a first word, a second one, and a text behind them
 pub two_words : (found : List (List ℕ)) (word middle name text : List ℕ) (others behind : Option (List ℕ))

@@ -8,8 +8,8 @@ use Rattle.script_text.specs.declared.status.Status.TheVariants.{Done}
 use Rattle.script_text.specs.Status.{message_of, number_of_status}
 use Rattle.script_text.specs.Words.{decimal, line_of}
 use Rattle.tree_memory.specs.Medium.{Medium, empty_disk}
-use Rattle.vold_book.specs.Book.{BookState}
-use Rattle.vold_book.specs.Turns.{new_book}
+use Rattle.vold_book.specs.State.{BookState}
+use Rattle.vold_book.specs.Turns.{new_book, opened_at}
 use Rattle.vold_run.specs.Ends.{HasMessage, RunPrints}
 use Rattle.vold_cases.specs.declared.case.Planned.{Planned}
 use Rattle.vold_cases.specs.declared.case.Case.{Case}
@@ -43,7 +43,7 @@ counts_of tree = tree.counts
 -- a run of the script's text over the tree left so much of the text, and the sink, which had taken some bytes before, then
 -- had these with what shows the Book
 abbrev pub ShowsRun : Medium → (script : List ℕ) → (left : Option (List ℕ)) → (taken taken' : List ℕ) → BookState Medium → Type 0
-ShowsRun tree script left taken taken' = RunPrints disk_of counts_of (new_book tree) (Some script) left (Some taken) (Some taken')
+ShowsRun tree script left taken taken' = RunPrints disk_of counts_of (new_book tree (opened_at (counts_of tree))) (Some script) left (Some taken) (Some taken')
 
 -- what a case prints: its run was made over a tree of which the planned calls fail, a source with the script's text and
 -- a sink that had taken nothing; with no Book the run wrote its status's message, and else what shows the Book

@@ -1,19 +1,14 @@
 -- Turns count their calls, one after another.
-use Rattle.std.proofs.Common.{◌≡◌, ℕ, ◌≤◌, Bool, true, false, List, [], ◌∷◌, ◌++◌, refl, sym, ap, ◌∙◌, subst, arith, append_assoc}
+use Rattle.std.proofs.Common.{◌≡◌, inl, inr, ℕ, ◌≤◌, Bool, true, false, List, [], ◌∷◌, ◌++◌, refl, sym, ap, ◌∙◌, subst, arith, append_assoc}
 use Rattle.std.proofs.lemmas.List.{append-nil}
-use Rattle.std.specs.Prelude.{Option, Some, None, Ok}
-use Rattle.std.specs.FinMap as map
-use Rattle.tree_model.specs.Disk.{Disk}
+use Rattle.std.specs.Prelude.{Ok}
 use Rattle.tree_model.specs.Counted.{Counts, IsCounted, one_more}
 use Rattle.journal_model.specs.declared.commands.Actor.{Actor}
 use Rattle.vold_book.specs.declared.turns.Turn.{Turn}
 use Rattle.vold_book.specs.declared.turns.Turn.TheVariants.{Went, Idle, Waits}
-use Rattle.vold_book.specs.declared.tasks.Running.{Running}
-use Rattle.vold_book.specs.declared.tasks.Task.{Task}
-use Rattle.vold_book.specs.declared.tasks.Task.TheVariants.{Create as Creating, Recover as Recovering, Reply as Replying}
-use Rattle.vold_book.specs.Book.{BookState}
+use Rattle.vold_book.specs.State.{BookState}
 use Rattle.vold_book.specs.Calls.{as_answer}
-use Rattle.vold_book.specs.Turns.{Answers, TurnsFrom, TaskTurns}
+use Rattle.vold_book.specs.Turns.{Answers, Turns}
 use Rattle.vold_run.specs.Calls.{counted_up, CountsCalls}
 
 up-more : (first second : List Actor) (count : ℕ) → counted_up (first ++ second) count ≡ counted_up second (counted_up first count)
@@ -27,10 +22,10 @@ counted before after false is = is.counted (λ e. cc)
 
 module _ {D : Type 0} (counts : D → Counts) where
   -- where neither the device's counts nor the callers changed
-  pub counts-same : (before after : BookState D) → counts after.tree ≡ counts before.tree → after.callers ≡ before.callers → CountsCalls counts before after
+  pub counts-same : (before after : BookState D) → counts after.tree ≡ counts before.tree → after.ledger.callers ≡ before.ledger.callers → CountsCalls counts before after
   counts-same before after same callers = record {
     more = [];
-    callers = callers ∙ sym (append-nil before.callers);
+    callers = callers ∙ sym (append-nil before.ledger.callers);
     calls = ap (λ c. c.calls) same;
     faults = subst (λ c. (counts before.tree).faults ≤ c.faults) (sym same) (omega arith);
   }
@@ -38,33 +33,26 @@ module _ {D : Type 0} (counts : D → Counts) where
   pub counts-joined : (before between after : BookState D) → CountsCalls counts before between → CountsCalls counts between after → CountsCalls counts before after
   counts-joined before between after first second = record {
     more = first.more ++ second.more;
-    callers = second.callers ∙ ap (λ cs. cs ++ second.more) first.callers ∙ append_assoc before.callers first.more second.more;
+    callers = second.callers ∙ ap (λ cs. cs ++ second.more) first.callers ∙ append_assoc before.ledger.callers first.more second.more;
     calls = second.calls ∙ ap (counted_up second.more) first.calls ∙ sym (up-more first.more second.more (counts before.tree).calls);
     faults = let one = first.faults in let other = second.faults in omega (arith, one, other);
   }
 
-  module _ (disk : D → Disk) (before after : BookState D) (actor : Actor) where
-    task-counts : (number : ℕ) (task : Task) → TaskTurns disk counts before after actor number task → CountsCalls counts before after
-    task-counts number (Creating create) calls = record {
+  module _ (before after : BookState D) (actor : Actor) where
+    turn-counts : Turns counts before after actor → CountsCalls counts before after
+    turn-counts (inl (none, begins)) =
+        counts-same before after (ap (λ b. counts b.tree) begins.state) (ap (λ b. b.ledger.callers) begins.state)
+    turn-counts (inr (inl calls)) = record {
       more = actor ∷ [];
-      callers = ap (λ b. b.callers) calls.state;
+      callers = ap (λ b. b.ledger.callers) calls.state;
       calls = counted (counts before.tree) (counts after.tree) calls.made calls.counted;
       faults = calls.counted.never_falls;
     }
-    task-counts number (Recovering recovery) recovers = record {
-      more = actor ∷ [];
-      callers = ap (λ b. b.callers) recovers.state;
-      calls = counted (counts before.tree) (counts after.tree) recovers.made recovers.counted;
-      faults = recovers.counted.never_falls;
-    }
-    task-counts number (Replying reply) state = counts-same before after (ap (λ b. counts b.tree) state) (ap (λ b. b.callers) state)
-
-    turn-counts : (found : Option Running) → TurnsFrom disk counts before after actor found → CountsCalls counts before after
-    turn-counts None begins = counts-same before after (ap (λ b. counts b.tree) begins.state) (ap (λ b. b.callers) begins.state)
-    turn-counts (Some it) turns = task-counts it.number it.task turns
+    turn-counts (inr (inr replies)) =
+        counts-same before after (ap (λ b. counts b.tree) replies.state) (ap (λ b. b.ledger.callers) replies.state)
 
     -- whatever a turn answers, its call was counted
-    pub answers-count : (turn : Turn) → Answers disk counts before after actor turn → CountsCalls counts before after
-    answers-count Went went = turn-counts (map.get before.running actor) went.turn
-    answers-count Idle idle = counts-same before after (ap (λ b. counts b.tree) idle.1) (ap (λ b. b.callers) idle.1)
-    answers-count Waits waits = counts-same before after (ap (λ b. counts b.tree) waits.2) (ap (λ b. b.callers) waits.2)
+    pub answers-count : (turn : Turn) → Answers counts before after actor turn → CountsCalls counts before after
+    answers-count Went went = turn-counts went.turn
+    answers-count Idle idle = counts-same before after (ap (λ b. counts b.tree) idle.1) (ap (λ b. b.ledger.callers) idle.1)
+    answers-count Waits waits = counts-same before after (ap (λ b. counts b.tree) waits.2) (ap (λ b. b.ledger.callers) waits.2)

@@ -6,25 +6,26 @@ use Rattle.journal_model.specs.Actor.{actor_cmp}
 use Rattle.tree_model.specs.Disk.{Disk}
 use Rattle.tree_model.specs.Counted.{Counts}
 use Rattle.script_text.specs.declared.script.Line.{Line}
-use Rattle.vold_book.specs.Book.{BookState, IsWhole}
-use Rattle.vold_book.specs.Numbers.{AllAsGiven}
+use Rattle.vold_book.specs.State.{BookState}
+use Rattle.vold_book.specs.Whole.{IsWhole}
+use Rattle.vold_book.specs.Whole.{AllAsGiven}
 use Rattle.vold_book.specs.Stands.{IsLooked}
 use Rattle.vold_run.specs.Fits.{LinesFit, history_of, nothing}
 use Rattle.vold_run.specs.Lines.{commands_of, orders_of, AreLinesDone, EndsIdle, IsFresh, IsInOrder, IsBetweenLines}
 use Rattle.vold_run.specs.Shown.{Shows}
 use Rattle.vold_run.specs.Ends.{IsDone}
 
-pub shown_is_done : {D : Type 0} (disk : D → Disk) (counts : D → Counts) (start : BookState D) (lines : List Line) (worked book : BookState D) → IsFresh start lines → AreLinesDone disk counts None lines start worked → IsWhole disk book → IsLooked disk worked book
+pub shown_is_done : {D : Type 0} (disk : D → Disk) (counts : D → Counts) (start : BookState D) (lines : List Line) (worked book : BookState D) → IsFresh start lines → AreLinesDone disk counts None lines start worked → IsWhole disk counts book → IsLooked disk worked book
     → (text : List ℕ) → Shows disk counts worked book text → IsDone disk counts start lines book text
 shown_is_done disk counts start lines worked book fresh done whole looked text shown =
-    let commands : book.commands ≡ commands_of lines = ap (λ b. b.commands) looked.state ∙ done.commands ∙ ap (λ h. h.commands ++ commands_of lines) fresh.history in
+    let commands : book.docket.commands ≡ commands_of lines = ap (λ b. b.docket.commands) looked.state ∙ done.commands ∙ ap (λ h. h.commands ++ commands_of lines) fresh.history in
     record {
       commands = commands;
-      began = subst (λ given. AllAsGiven given book.entries) commands whole.parts.numbers.as_given;
+      began = subst (λ given. AllAsGiven given book.ledger.entries) commands whole.numbers.as_given;
       fits = subst (LinesFit lines nothing) (sym (ap history_of looked.state)) (subst (λ history. LinesFit lines history (history_of worked)) fresh.history done.fits);
       idle = subst (EndsIdle lines) (sym looked.state) done.idle;
       seed = ap (λ b. b.seed) looked.state ∙ done.seed ∙ fresh.seed;
-      orders = ap (λ b. b.orders) looked.state ∙ done.orders ∙ ap (λ os. os ++ orders_of lines) fresh.orders;
+      orders = ap (λ b. b.ledger.orders) looked.state ∙ done.orders ∙ ap (λ os. os ++ orders_of lines) fresh.orders;
       worked = worked;
       counted = done.counted;
       looked = looked;
@@ -32,9 +33,9 @@ shown_is_done disk counts start lines worked book fresh done whole looked text s
     }
 
 -- a Book as it is opened waits for its lines
-pub fresh-between : {D : Type 0} (disk : D → Disk) (book : BookState D) (lines : List Line) → IsWhole disk book → IsFresh book lines → IsBetweenLines disk book
-fresh-between disk book lines whole fresh = record {
+pub fresh-between : {D : Type 0} (disk : D → Disk) (counts : D → Counts) (book : BookState D) (lines : List Line) → IsWhole disk counts book → IsFresh book lines → IsBetweenLines disk counts book
+fresh-between disk counts book lines whole fresh = record {
   whole = whole;
-  level = ap (λ p. p.level) fresh.power;
+  level = ap (λ p. p.level) fresh.tracker;
   order = λ actor. subst (λ found. IfSome found (IsInOrder actor)) (sym (ap (λ w. map.get w actor) fresh.waiting ∙ map.get-empty actor_cmp actor)) tt;
 }

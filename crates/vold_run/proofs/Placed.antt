@@ -9,9 +9,9 @@ use Rattle.tree_model.specs.Counted.{Counts}
 use Rattle.script_text.specs.declared.script.Line.{Line}
 use Rattle.script_text.specs.declared.script.Line.TheVariants.{Seed, Do, Turns, All, Stop, Restart}
 use Rattle.script_text.specs.Script.{is_stop, may_follow, IsLine, AreInOrder}
-use Rattle.vold_book.specs.declared.power.Phase.{Phase}
-use Rattle.vold_book.specs.declared.power.Phase.TheVariants.{Halted}
-use Rattle.vold_book.specs.Book.{BookState}
+use Rattle.journal_model.specs.declared.phase.Phase.{Phase}
+use Rattle.journal_model.specs.declared.phase.Phase.TheVariants.{Halted}
+use Rattle.vold_book.specs.State.{BookState}
 use Rattle.vold_run.specs.Fits.{History, LineFits, LinesFit, history_of}
 use Rattle.vold_run.specs.Lines.{command_of, order_of, commands_of, orders_of, last_of, StandsStill, IsReadyFor, IsLineDone, AreLinesDone, IsBetweenLines, LeavesNothing}
 use Rattle.vold_run.proofs.Counted.{counts-same, counts-joined}
@@ -68,17 +68,17 @@ at_most_one (Stop cut) = omega arith
 at_most_one (Restart level) = omega arith
 
 -- a line gives at most one command
-pub few-more : {D : Type 0} (disk : D → Disk) (counts : D → Counts) (line : Line) (before after : BookState D) → IsLineDone disk counts line before after → length after.commands ≤ length before.commands + 1
+pub few-more : {D : Type 0} (disk : D → Disk) (counts : D → Counts) (line : Line) (before after : BookState D) → IsLineDone disk counts line before after → length after.docket.commands ≤ length before.docket.commands + 1
 few-more disk counts line before after done =
     let one = at_most_one line in
-    let all = ap length done.commands ∙ length-append before.commands (command_of line) in
+    let all = ap length done.commands ∙ length-append before.docket.commands (command_of line) in
     omega (arith, one, all)
 
 module _ {D : Type 0} (disk : D → Disk) (counts : D → Counts) (prior : Option Line) where
-  pub no-lines : (book : BookState D) → StandsStill prior book.power.phase → IsBetweenLines disk book → AreLinesDone disk counts prior [] book book
+  pub no-lines : (book : BookState D) → StandsStill prior book.tracker.phase → IsBetweenLines disk counts book → AreLinesDone disk counts prior [] book book
   no-lines book still between = record {
-    commands = sym (append-nil book.commands);
-    orders = sym (append-nil book.orders);
+    commands = sym (append-nil book.docket.commands);
+    orders = sym (append-nil book.ledger.orders);
     seed = refl;
     fits = refl;
     counted = counts-same counts book book refl refl;
@@ -93,13 +93,13 @@ module _ {D : Type 0} (disk : D → Disk) (counts : D → Counts) (prior : Optio
 
   more : (lines : List Line) (line : Line) (before between after : BookState D) → AreLinesDone disk counts prior lines before between → IsLineDone disk counts line between after → AreLinesDone disk counts prior (lines ++ line ∷ []) before after
   more lines line before between after done then = record {
-    commands = then.commands ∙ ap (λ cs. cs ++ command_of line) done.commands ∙ append_assoc before.commands (commands_of lines) (command_of line) ∙ ap (λ cs. before.commands ++ cs) (sym (flat-more command_of lines line));
-    orders = then.orders ∙ ap (λ os. os ++ order_of line) done.orders ∙ append_assoc before.orders (orders_of lines) (order_of line) ∙ ap (λ os. before.orders ++ os) (sym (flat-more order_of lines line));
+    commands = then.commands ∙ ap (λ cs. cs ++ command_of line) done.commands ∙ append_assoc before.docket.commands (commands_of lines) (command_of line) ∙ ap (λ cs. before.docket.commands ++ cs) (sym (flat-more command_of lines line));
+    orders = then.orders ∙ ap (λ os. os ++ order_of line) done.orders ∙ append_assoc before.ledger.orders (orders_of lines) (order_of line) ∙ ap (λ os. before.ledger.orders ++ os) (sym (flat-more order_of lines line));
     seed = then.seed ∙ done.seed;
     fits = lines_more lines line (history_of before) (history_of between) (history_of after) done.fits then.fits;
     counted = counts-joined counts before between after done.counted then.counted;
     idle = λ front last is. subst (λ l. LeavesNothing l after) (some_same line last (sym (last-more prior lines line) ∙ ap (last_of prior) is ∙ last-more prior front last)) then.idle;
-    still = subst (λ l. StandsStill l after.power.phase) (sym (last-more prior lines line)) then.still;
+    still = subst (λ l. StandsStill l after.tracker.phase) (sym (last-more prior lines line)) then.still;
     between = then.between;
   }
 

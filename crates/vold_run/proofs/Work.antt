@@ -1,6 +1,6 @@
 -- What a whole Book's actors run and what waits for them is what the journal and the given commands tell, and so is each turn.
 use Rattle.std.specs.declared.cmp.Ordering.TheVariants.{Less, Equal}
-use Rattle.std.proofs.Common.{◌≡◌, ◌⊎◌, inl, inr, ℕ, Bool, true, false, List, [], ◌∷◌, ◌++◌, refl, sym, ap, ◌∙◌, subst, arith}
+use Rattle.std.proofs.Common.{◌≡◌, ◌⊎◌, inl, inr, ℕ, List, [], ◌∷◌, ◌++◌, refl, sym, ap, ◌∙◌, subst, arith}
 use Rattle.std.specs.Prelude.{Option, Some, None, IsSome, IfSome, IsSomeAnd, Contains, slice_get}
 use Rattle.std.specs.FinMap as map
 use Rattle.std.proofs.lemmas.List.{append-nil}
@@ -8,33 +8,24 @@ use Rattle.tree_model.specs.Disk.{Disk}
 use Rattle.tree_model.specs.Counted.{Counts}
 use Rattle.journal_model.specs.declared.commands.Actor.{Actor}
 use Rattle.journal_model.specs.declared.commands.Actor.TheVariants.{Boot, Cp, User}
-use Rattle.journal_model.specs.declared.entries.Birth.{Birth}
 use Rattle.journal_model.specs.declared.entries.Entry.{Entry}
-use Rattle.journal_model.specs.declared.entries.Entry.TheVariants.{Synced}
 use Rattle.journal_model.specs.Command.{actor_of}
 use Rattle.journal_model.specs.Actor.{actor_cmp}
-use Rattle.journal_model.specs.Machine.{machine_after, numbers_begun}
-use Rattle.tree_model.specs.declared.places.Class.TheVariants.{De as ForDe, Ce as ForCe}
-use Rattle.vold_book.specs.declared.tasks.Stage.{Stage}
-use Rattle.vold_book.specs.declared.tasks.Stage.TheVariants.{Clearing, Made, Versioned, Keyed, Settled, Renamed, Created}
+use Rattle.journal_model.specs.declared.phase.Phase.{Phase}
+use Rattle.journal_model.specs.declared.phase.Phase.TheVariants.{Up, Down, Halted}
+use Rattle.journal_model.specs.Machine.{TakesTurn, machine_after, numbers_begun}
 use Rattle.vold_book.specs.declared.tasks.Running.{Running}
-use Rattle.vold_book.specs.declared.tasks.Task.{Task}
-use Rattle.vold_book.specs.declared.power.Phase.{Phase}
-use Rattle.vold_book.specs.declared.power.Phase.TheVariants.{Up, Down, Halted}
-use Rattle.vold_book.specs.declared.tasks.Recovery.{Recovery}
-use Rattle.vold_book.specs.declared.tasks.Recovery.TheVariants.{List as Listing, Remove, Sync}
-use Rattle.vold_book.specs.declared.tasks.Task.TheVariants.{Create as Creating, Recover as Recovering, Reply as Replying}
-use Rattle.vold_book.specs.Book.{BookState, IsWhole}
-use Rattle.vold_book.specs.Busy.{IsBusy, IsNextBusy}
-use Rattle.vold_book.specs.Create.{entry_at, entry_of}
-use Rattle.vold_book.specs.Numbers.{IsQueue}
-use Rattle.vold_book.specs.Powered.{TakesTurn, machine_phase}
-use Rattle.vold_book.specs.Turns.{Begins, Goes, TurnsFrom, TaskTurns, entries_after, entries_recovered}
-use Rattle.vold_book.proofs.Numbers.{contains-cons}
-use Rattle.vold_book.proofs.Whole.{run-began, began-run}
+use Rattle.vold_book.specs.State.{BookState}
+use Rattle.vold_book.specs.Whole.{IsWhole}
+use Rattle.docket.specs.Docket.{IsBusy, IsNextBusy}
+use Rattle.vold_book.specs.Parts.{with_entry}
+use Rattle.vold_book.specs.Turns.{Begins, Goes, Turns, IsNoted as IsNotedEntry}
+use Rattle.vold_book.proofs.Begun.{none_of}
+use Rattle.docket.specs.Accounts.{AllWait}
+use Rattle.docket.proofs.Accounts.{contains-cons}
 use Rattle.vold_run.specs.Rounds.{NothingLeft}
 use Rattle.vold_run.specs.Lines.{IsInOrder, IsBetweenLines}
-use Rattle.vold_run.specs.Fits.{history_of, Waits, Runs, HasWork, Allows, IsAtWork, NoWork, ComesBy, IsNextAtWork, NoneAtWork, BeginsNext, IsNoted, CallsOnce, RepliesOnce, TurnFits}
+use Rattle.vold_run.specs.Fits.{history_of, Waits, Runs, HasWork, IsAtWork, NoWork, ComesBy, IsNextAtWork, NoneAtWork, BeginsNext, IsNoted, TurnFits}
 
 there : {A : Type 0} (found : Option A) (P : A → Type 0) → IsSomeAnd found P → (a : A) × (found ≡ Some a) × P a
 there None P h = absurd h
@@ -54,33 +45,20 @@ there_and_not found there none = cc
 pub some_same : {A : Type 0} (a b : A) → Some a ≡ Some b → a ≡ b
 some_same a b e = cc
 
--- the phase that a Book knows takes turns of the actors that the machine's phase allows
-takes-allows : (phase : Phase) (actor : Actor) → TakesTurn phase actor → Allows (machine_phase phase) actor
-takes-allows Up actor takes = takes
-takes-allows Down Boot takes = takes
-takes-allows Down Cp takes = takes
-takes-allows Down (User user) takes = takes
-takes-allows Halted actor takes = takes
-
-allows-takes : (phase : Phase) (actor : Actor) → Allows (machine_phase phase) actor → TakesTurn phase actor
-allows-takes Up actor allowed = allowed
-allows-takes Down Boot allowed = allowed
-allows-takes Down Cp allowed = allowed
-allows-takes Down (User user) allowed = allowed
-allows-takes Halted actor allowed = allowed
-
 -- where the machine takes no turn of an actor, it takes none of those behind it
-pub none-behind : (phase : Phase) (actor other : Actor) → ¬ (TakesTurn phase actor) → TakesTurn phase other → (actor_cmp actor other ≡ Less) ⊎ (actor_cmp actor other ≡ Equal) → ⊥
+pub none-behind : (phase : Phase) (actor other : Actor) → ¬ (TakesTurn phase actor) → TakesTurn phase other
+    → (actor_cmp actor other ≡ Less) ⊎ (actor_cmp actor other ≡ Equal) → ⊥
 none-behind Up actor other waits takes order = waits tt
-none-behind Down Boot other waits takes order = waits tt
-none-behind Down Cp Boot waits takes (inl less) = cc
-none-behind Down Cp Boot waits takes (inr equal) = cc
-none-behind Down (User user) Boot waits takes (inl less) = cc
-none-behind Down (User user) Boot waits takes (inr equal) = cc
-none-behind Down Cp Cp waits takes order = takes
-none-behind Down Cp (User user) waits takes order = takes
-none-behind Down (User user) Cp waits takes order = takes
-none-behind Down (User user) (User other) waits takes order = takes
+none-behind Down Boot other waits takes order = waits refl
+none-behind Down Cp other waits takes order = elim (subst (λ o. (actor_cmp Cp o ≡ Less) ⊎ (actor_cmp Cp o ≡ Equal)) takes order) [
+  | inl less ↦ cc
+  | inr equal ↦ cc
+]
+none-behind Down (User user) other waits takes order =
+    elim (subst (λ o. (actor_cmp (User user) o ≡ Less) ⊎ (actor_cmp (User user) o ≡ Equal)) takes order) [
+      | inl less ↦ cc
+      | inr equal ↦ cc
+    ]
 none-behind Halted actor other waits takes order = takes
 
 comes-itself : (actor : Actor) (number : ℕ) → ComesBy actor number number
@@ -88,68 +66,86 @@ comes-itself Boot number = omega arith
 comes-itself Cp number = omega arith
 comes-itself (User user) number = omega arith
 
-module _ {D : Type 0} (disk : D → Disk) (book : BookState D) (whole : IsWhole disk book) where
-  runs-run : (actor : Actor) (number : ℕ) → Runs (history_of book) actor number → IsSome (map.get book.running actor)
+module _ {D : Type 0} (disk : D → Disk) (counts : D → Counts) (book : BookState D) (whole : IsWhole disk counts book) where
+  runs-run : (actor : Actor) (number : ℕ) → Runs (history_of book) actor number → IsSome (map.get book.docket.running actor)
   runs-run actor number runs =
-      let began = there (map.get (machine_after book.entries).running number) (λ running. actor_of running.command ≡ actor) runs in
-      is_there (map.get book.running actor) (λ it. it.number ≡ number) (subst (λ a. IsSomeAnd (map.get book.running a) (λ it. it.number ≡ number)) began.2 (began-run disk book number began.0 whole began.1))
+      let began = there (map.get (machine_after book.ledger.entries).running number) (λ running. actor_of running.command ≡ actor) runs in
+      is_there (map.get book.docket.running actor) (λ it. it.number ≡ number)
+      (subst (λ a. IsSomeAnd (map.get book.docket.running a) (λ it. it.number ≡ number)) began.2 (whole.all number began.0 began.1))
 
-  waits-queue : (actor : Actor) (number : ℕ) → Waits (history_of book) actor number → IsSomeAnd (map.get book.waiting actor) (λ numbers. Contains numbers number)
+  -- what runs began, and got no reply
+  pub run-runs : (actor : Actor) (it : Running) → map.get book.docket.running actor ≡ Some it
+      → Runs (history_of book) actor it.number
+  run-runs actor it at =
+      let run = whole.run actor it at in
+      subst (λ found. IsSomeAnd found (λ running. actor_of running.command ≡ actor)) (sym run.at) run.own
+
+  waits-queue : (actor : Actor) (number : ℕ) → Waits (history_of book) actor number
+      → IsSomeAnd (map.get book.docket.waiting actor) (λ numbers. Contains numbers number)
   waits-queue actor number waits =
-      let given = there (slice_get book.commands number) (λ command. actor_of command ≡ actor) waits.0 in
-      elim (whole.parts.numbers.kept number given.0 given.1) [
+      let given = there (slice_get book.docket.commands number) (λ command. actor_of command ≡ actor) waits.0 in
+      elim (whole.numbers.accounted.kept number given.0 given.1) [
         | inl began ↦ absurd (waits.1 began)
-        | inr queued ↦ subst (λ a. IsSomeAnd (map.get book.waiting a) (λ numbers. Contains numbers number)) given.2 queued
+        | inr queued ↦ subst (λ a. IsSomeAnd (map.get book.docket.waiting a) (λ numbers. Contains numbers number)) given.2 queued
       ]
 
-  queue-is : (actor : Actor) (numbers : List ℕ) → map.get book.waiting actor ≡ Some numbers → IsQueue book.commands (numbers_begun book.entries) actor numbers
-  queue-is actor numbers at = subst (λ found. IfSome found (IsQueue book.commands (numbers_begun book.entries) actor)) at (whole.parts.numbers.queues actor)
+  queue-waits : (actor : Actor) (number : ℕ) (numbers : List ℕ) → map.get book.docket.waiting actor ≡ Some (number ∷ numbers)
+      → Waits (history_of book) actor number
+  queue-waits actor number numbers at =
+      let wait = subst (λ found. IfSome found (AllWait actor_of book.docket.commands (numbers_begun book.ledger.entries) actor)) at
+      (whole.numbers.accounted.queues actor) in
+      (wait.0, wait.1)
 
-  queue-waits : (actor : Actor) (number : ℕ) (numbers : List ℕ) → map.get book.waiting actor ≡ Some (number ∷ numbers) → Waits (history_of book) actor number
-  queue-waits actor number numbers at = let wait = (queue-is actor (number ∷ numbers) at).wait in (wait.0, wait.1)
-
-  queue-works : (actor : Actor) (numbers : List ℕ) → map.get book.waiting actor ≡ Some numbers → HasWork (history_of book) actor
-  queue-works actor [] at = absurd ((queue-is actor [] at).some refl)
+  queue-works : (actor : Actor) (numbers : List ℕ) → map.get book.docket.waiting actor ≡ Some numbers
+      → HasWork (history_of book) actor
+  queue-works actor [] at = absurd (whole.numbers.accounted.some actor at)
   queue-works actor (number ∷ numbers) at = (number, inr (queue-waits actor number numbers at))
 
   -- an actor that is busy has something to do
-  busy-works : (actor : Actor) → IsBusy book actor → HasWork (history_of book) actor
-  busy-works actor (inl runs) = let it = some (map.get book.running actor) runs in (it.0.number, inl (run-began disk book actor it.0 whole it.1))
-  busy-works actor (inr waits) = let queue = some (map.get book.waiting actor) waits in queue-works actor queue.0 queue.1
+  busy-works : (actor : Actor) → IsBusy book.docket actor → HasWork (history_of book) actor
+  busy-works actor (inl runs) =
+      let it = some (map.get book.docket.running actor) runs in (it.0.number, inl (run-runs actor it.0 it.1))
+  busy-works actor (inr waits) =
+      let queue = some (map.get book.docket.waiting actor) waits in queue-works actor queue.0 queue.1
 
   -- and one that has something to do is busy
-  works-busy : (actor : Actor) → HasWork (history_of book) actor → IsBusy book actor
+  works-busy : (actor : Actor) → HasWork (history_of book) actor → IsBusy book.docket actor
   works-busy actor (number, inl runs) = inl (runs-run actor number runs)
-  works-busy actor (number, inr waits) = inr (is_there (map.get book.waiting actor) (λ numbers. Contains numbers number) (waits-queue actor number waits))
+  works-busy actor (number, inr waits) =
+      inr (is_there (map.get book.docket.waiting actor) (λ numbers. Contains numbers number) (waits-queue actor number waits))
 
   -- an actor is at work where it is busy and has turns
-  pub at-work : (actor : Actor) → IsBusy book actor → TakesTurn book.power.phase actor → IsAtWork (history_of book) actor
-  at-work actor busy takes = record { works = busy-works actor busy; allowed = subst (λ p. Allows p actor) (sym whole.agrees.phase) (takes-allows book.power.phase actor takes) }
+  pub at-work : (actor : Actor) → IsBusy book.docket actor → TakesTurn book.tracker.phase actor
+      → IsAtWork (history_of book) actor
+  at-work actor busy takes = record {
+    works = busy-works actor busy;
+    allowed = subst (λ p. TakesTurn p actor) (sym whole.agrees.phase) takes;
+  }
 
-  pub work-takes : (actor : Actor) → IsAtWork (history_of book) actor → TakesTurn book.power.phase actor
-  work-takes actor work = allows-takes book.power.phase actor (subst (λ p. Allows p actor) whole.agrees.phase work.allowed)
+  pub work-takes : (actor : Actor) → IsAtWork (history_of book) actor → TakesTurn book.tracker.phase actor
+  work-takes actor work = subst (λ p. TakesTurn p actor) whole.agrees.phase work.allowed
 
-  pub work-busy : (actor : Actor) → IsAtWork (history_of book) actor → IsBusy book actor
+  pub work-busy : (actor : Actor) → IsAtWork (history_of book) actor → IsBusy book.docket actor
   work-busy actor work = works-busy actor work.works
 
-  pub next-fits : (after : Option Actor) (next : Actor) → IsNextBusy book after (Some next) → TakesTurn book.power.phase next → IsNextAtWork (history_of book) after next
+  pub next-fits : (after : Option Actor) (next : Actor) → IsNextBusy book.docket after (Some next) → TakesTurn book.tracker.phase next → IsNextAtWork (history_of book) after next
   next-fits after next is takes = record { works = at-work next is.0 takes; later = is.1; first = λ other works later. is.2 other (work-busy other works) later }
 
   -- no actor is at work behind the last one: none is busy, or the machine takes no turn of the next one
-  pub none-fits : (after : Option Actor) → IsNextBusy book after None → NoneAtWork (history_of book) after
+  pub none-fits : (after : Option Actor) → IsNextBusy book.docket after None → NoneAtWork (history_of book) after
   none-fits after none other works later = none other (work-busy other works) later
 
-  pub waits-fits : (after : Option Actor) (next : Actor) → IsNextBusy book after (Some next) → ¬ (TakesTurn book.power.phase next) → NoneAtWork (history_of book) after
-  waits-fits after next is waits other works later = none-behind book.power.phase next other waits (work-takes other works) (is.2 other (work-busy other works) later)
+  pub waits-fits : (after : Option Actor) (next : Actor) → IsNextBusy book.docket after (Some next) → ¬ (TakesTurn book.tracker.phase next) → NoneAtWork (history_of book) after
+  waits-fits after next is waits other works later = none-behind book.tracker.phase next other waits (work-takes other works) (is.2 other (work-busy other works) later)
 
   pub idle-fits : NothingLeft book → NoWork (history_of book)
   idle-fits idle actor works = idle actor (work-busy actor works) (work-takes actor works)
 
-  begins-fits : (after : BookState D) (actor : Actor) → IfSome (map.get book.waiting actor) (IsInOrder actor) → map.get book.running actor ≡ None → Begins book after actor → BeginsNext (history_of book) actor (history_of after)
+  begins-fits : (after : BookState D) (actor : Actor) → IfSome (map.get book.docket.waiting actor) (IsInOrder actor) → map.get book.docket.running actor ≡ None → Begins book after actor → BeginsNext (history_of book) actor (history_of after)
   begins-fits after actor order none begins = record {
     number = begins.number;
     command = begins.command;
-    idle = λ other runs. there_and_not (map.get book.running actor) (runs-run actor other runs) none;
+    idle = λ other runs. there_and_not (map.get book.docket.running actor) (runs-run actor other runs) none;
     waits = queue-waits actor begins.number begins.numbers begins.queued;
     first = λ other waits. first other waits;
     given = begins.given;
@@ -161,7 +157,7 @@ module _ {D : Type 0} (disk : D → Disk) (book : BookState D) (whole : IsWhole 
 
       first : (other : ℕ) → Waits (history_of book) actor other → ComesBy actor begins.number other
       first other waits =
-          let queue = there (map.get book.waiting actor) (λ numbers. Contains numbers other) (waits-queue actor other waits) in
+          let queue = there (map.get book.docket.waiting actor) (λ numbers. Contains numbers other) (waits-queue actor other waits) in
           let same : queue.0 ≡ begins.number ∷ begins.numbers = some_same queue.0 (begins.number ∷ begins.numbers) (sym queue.1 ∙ begins.queued) in
           let within = subst (λ numbers. Contains numbers other) same queue.2 in
           elim (contains-cons begins.number begins.numbers other within) [
@@ -170,54 +166,34 @@ module _ {D : Type 0} (disk : D → Disk) (book : BookState D) (whole : IsWhole 
           ]
 
 -- the entry of a call is one that a call may add
-noted_entry : (found : Option Entry) (made : Bool) (entries : List Entry) (number : ℕ) → ((entry : Entry) → found ≡ Some entry → IsNoted number (entry ∷ [])) → (more : List Entry) × IsNoted number more × (entries_after made entries found ≡ entries ++ more)
-noted_entry None true entries number noted = ([], inl refl, sym (append-nil entries))
-noted_entry None false entries number noted = ([], inl refl, sym (append-nil entries))
-noted_entry (Some entry) true entries number noted = (entry ∷ [], noted entry refl, refl)
-noted_entry (Some entry) false entries number noted = ([], inl refl, sym (append-nil entries))
-
-entry-noted : (stage : Stage) (number user : ℕ) (birth : Birth) (entry : Entry) → entry_at stage number user birth ≡ Some entry → IsNoted number (entry ∷ [])
-entry-noted Clearing number user birth entry is = cc
-entry-noted (Made class) number user birth entry is = cc
-entry-noted (Versioned class) number user birth entry is = cc
-entry-noted (Keyed class) number user birth entry is = inr (inl (ap (λ e. e ∷ []) (sym (some_same _ _ is))))
-entry-noted (Settled ForCe) number user birth entry is = cc
-entry-noted (Settled ForDe) number user birth entry is = inr (inr (_, ap (λ e. e ∷ []) (sym (some_same _ _ is))))
-entry-noted Renamed number user birth entry is = cc
-entry-noted Created number user birth entry is = inr (inl (ap (λ e. e ∷ []) (sym (some_same _ _ is))))
-
-noted_recovered : (made : Bool) (recovery : Recovery) (number : ℕ) (entries : List Entry) → (more : List Entry) × IsNoted number more × (entries_recovered made recovery entries ≡ entries ++ more)
-noted_recovered false recovery number entries = ([], inl refl, sym (append-nil entries))
-noted_recovered true Listing number entries = ([], inl refl, sym (append-nil entries))
-noted_recovered true (Remove place) number entries = ([], inl refl, sym (append-nil entries))
-noted_recovered true Sync number entries = (Synced ∷ [], inr (inl refl), refl)
-
-task-fits : {D : Type 0} (disk : D → Disk) (counts : D → Counts) (book after : BookState D) (actor : Actor) (number : ℕ) (task : Task) → Runs (history_of book) actor number → TaskTurns disk counts book after actor number task
-    → CallsOnce (history_of book) actor (history_of after) ⊎ RepliesOnce (history_of book) actor (history_of after)
-task-fits disk counts book after actor number (Creating create) runs calls =
-    let noted = noted_entry (entry_of create number) calls.made book.entries number (entry-noted create.stage number create.user create.birth) in
-    inl (record {
-      number = number;
-      more = noted.0;
-      runs = runs;
-      noted = noted.1;
-      left = ap history_of calls.state ∙ ap (λ entries. record (history_of book) { entries = entries; calls = book.callers ++ actor ∷ [] }) noted.2;
-    })
-task-fits disk counts book after actor number (Recovering recovery) runs recovers =
-    let noted = noted_recovered recovers.made recovery number book.entries in
-    inl (record {
-      number = number;
-      more = noted.0;
-      runs = runs;
-      noted = noted.1;
-      left = ap history_of recovers.state ∙ ap (λ entries. record (history_of book) { entries = entries; calls = book.callers ++ actor ∷ [] }) noted.2;
-    })
-task-fits disk counts book after actor number (Replying reply) runs state = inr (record { number = number; reply = reply; runs = runs; left = ap history_of state })
+entry-noted : (number : ℕ) (entry : Option Entry) → IsNotedEntry number entry → (entries : List Entry)
+    → (more : List Entry) × IsNoted number more × (with_entry entries entry ≡ entries ++ more)
+entry-noted number None noted entries = ([], inl refl, sym (append-nil entries))
+entry-noted number (Some entry) (inl is) entries = (entry ∷ [], inr (inl (ap (λ e. e ∷ []) is)), refl)
+entry-noted number (Some entry) (inr (change, is)) entries =
+    (entry ∷ [], inr (inr (change, ap (λ e. e ∷ []) is)), refl)
 
 -- a turn that went fits
-pub turn-fits : {D : Type 0} (disk : D → Disk) (counts : D → Counts) (book after : BookState D) (actor : Actor) → IsBetweenLines disk book → Goes disk counts book after actor → TurnFits (history_of book) actor (history_of after)
-turn-fits disk counts book after actor between goes = from (map.get book.running actor) refl goes.turn
+pub turn-fits : {D : Type 0} (disk : D → Disk) (counts : D → Counts) (book after : BookState D) (actor : Actor)
+    → IsBetweenLines disk counts book → Goes counts book after actor → TurnFits (history_of book) actor (history_of after)
+turn-fits disk counts book after actor between goes = from goes.turn
   where
-    from : (found : Option Running) → map.get book.running actor ≡ found → TurnsFrom disk counts book after actor found → TurnFits (history_of book) actor (history_of after)
-    from None is begins = inl (begins-fits disk book between.whole after actor (between.order actor) is begins)
-    from (Some it) is turns = inr (task-fits disk counts book after actor it.number it.task (run-began disk book actor it between.whole is) turns)
+    from : Turns counts book after actor → TurnFits (history_of book) actor (history_of after)
+    from (inl (none, begins)) = inl (begins-fits disk counts book between.whole after actor (between.order actor)
+        (none_of (map.get book.docket.running actor) none) begins)
+    from (inr (inl calls)) =
+        let noted = entry-noted calls.it.number calls.entry calls.noted book.ledger.entries in
+        inr (inl (record {
+          number = calls.it.number;
+          more = noted.0;
+          runs = run-runs disk counts book between.whole actor calls.it calls.runs;
+          noted = noted.1;
+          left = ap history_of calls.state
+              ∙ ap (λ entries. record (history_of book) { entries = entries; calls = book.ledger.callers ++ actor ∷ [] }) noted.2;
+        }))
+    from (inr (inr replies)) = inr (inr (record {
+      number = replies.it.number;
+      reply = replies.reply;
+      runs = run-runs disk counts book between.whole actor replies.it replies.runs;
+      left = ap history_of replies.state;
+    }))

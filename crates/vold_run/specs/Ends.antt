@@ -9,8 +9,8 @@ use Rattle.script_text.specs.declared.status.Status.{Status}
 use Rattle.script_text.specs.declared.status.Status.TheVariants.{Done, Usage, BadScript, ReadFault, WriteFault, NoMemory}
 use Rattle.script_text.specs.Script.{seed_of}
 use Rattle.script_text.specs.Status.{message_of}
-use Rattle.vold_book.specs.Book.{BookState}
-use Rattle.vold_book.specs.Numbers.{AllAsGiven}
+use Rattle.vold_book.specs.State.{BookState}
+use Rattle.vold_book.specs.Whole.{AllAsGiven}
 use Rattle.vold_book.specs.Stands.{IsLooked}
 use Rattle.vold_run.specs.Calls.{CountsCalls}
 use Rattle.vold_run.specs.Fits.{LinesFit, history_of, nothing}
@@ -25,14 +25,14 @@ InPlaceOf wanted status = (status ≡ wanted) ⊎ (status ≡ WriteFault) ⊎ (s
 -- the lines are done on a Book that was as `start`, and the text shows it
 pub record IsDone {D : Type 0} (disk : D → Disk) (counts : D → Counts) (start : BookState D) (lines : List Line) (book : BookState D) (text : List ℕ) : Type 0 where
   -- the numbered commands are those of the lines, in order, and what began with a number is the command of that number
-  pub commands : book.commands ≡ commands_of lines
-  pub began : AllAsGiven (commands_of lines) book.entries
+  pub commands : book.docket.commands ≡ commands_of lines
+  pub began : AllAsGiven (commands_of lines) book.ledger.entries
   -- who moved in which line
   pub fits : LinesFit lines nothing (history_of book)
   pub idle : EndsIdle lines book
   -- the seed is the script's, and the stops are those of its lines
   pub seed : book.seed ≡ seed_of lines
-  pub orders : book.orders ≡ orders_of lines
+  pub orders : book.ledger.orders ≡ orders_of lines
   -- the Book as it was before the last looks at its device; until then its calls were counted as they were made
   pub worked : BookState D
   pub counted : CountsCalls counts start worked

@@ -14,11 +14,11 @@ use Rattle.journal_model.specs.declared.entries.Entry.{Entry}
 use Rattle.journal_model.specs.declared.entries.Entry.TheVariants.{Began, Changed, Synced, Stopped, Restarted, Replied}
 use Rattle.journal_model.specs.Actor.{actor_cmp}
 use Rattle.journal_model.specs.Command.{actor_of}
-use Rattle.journal_model.specs.Machine.{Phase, Up, Down, Halted, machine_after, numbers_begun}
+use Rattle.journal_model.specs.Machine.{TakesTurn, machine_after, numbers_begun}
 use Rattle.script_text.specs.declared.script.Line.{Line}
 use Rattle.script_text.specs.declared.script.Line.TheVariants.{Seed, Do, Turns, All, Stop, Restart}
-use Rattle.vold_book.specs.Book.{BookState}
-use Rattle.vold_book.specs.Busy.{IsAfter}
+use Rattle.vold_book.specs.State.{BookState}
+use Rattle.sorted_map.specs.Maps.{IsAfter}
 
 -- the commands that were given, by number, the journal, and the actor of each call of the device, in order
 pub record History : Type 0 where
@@ -31,7 +31,7 @@ abbrev pub nothing : History
 nothing = record { commands = []; entries = []; calls = [] }
 
 abbrev pub history_of : {D : Type 0} → BookState D → History
-history_of book = record { commands = book.commands; entries = book.entries; calls = book.callers }
+history_of book = record { commands = book.docket.commands; entries = book.ledger.entries; calls = book.ledger.callers }
 
 -- the number was given to a command of the actor, which didn't begin
 abbrev pub Waits : History → Actor → ℕ → Type 0
@@ -45,18 +45,10 @@ Runs history actor number = IsSomeAnd (map.get (machine_after history.entries).r
 abbrev pub HasWork : History → Actor → Type 0
 HasWork history actor = (number : ℕ) × (Runs history actor number ⊎ Waits history actor number)
 
--- whose turns the machine takes in a phase: every actor's while it is up, the recovery's alone once it started again
-abbrev pub Allows : Phase → Actor → Type 0
-Allows Up actor = Unit {0}
-Allows Down Boot = Unit {0}
-Allows Down Cp = ⊥
-Allows Down (User user) = ⊥
-Allows Halted actor = ⊥
-
 -- the actor has something to do, and the machine takes its turns
 pub record IsAtWork (history : History) (actor : Actor) : Type 0 where
   pub works : HasWork history actor
-  pub allowed : Allows (machine_after history.entries).phase actor
+  pub allowed : TakesTurn (machine_after history.entries).phase actor
 
 -- no actor is
 abbrev pub NoWork : History → Type 0
@@ -65,11 +57,11 @@ NoWork history = (actor : Actor) → ¬ (IsAtWork history actor)
 -- the first actor at work after another, or of all
 pub record IsNextAtWork (history : History) (after : Option Actor) (next : Actor) : Type 0 where
   pub works : IsAtWork history next
-  pub later : IsAfter after next
-  pub first : (other : Actor) → IsAtWork history other → IsAfter after other → (actor_cmp next other ≡ Less) ⊎ (actor_cmp next other ≡ Equal)
+  pub later : IsAfter actor_cmp after next
+  pub first : (other : Actor) → IsAtWork history other → IsAfter actor_cmp after other → (actor_cmp next other ≡ Less) ⊎ (actor_cmp next other ≡ Equal)
 
 abbrev pub NoneAtWork : History → Option Actor → Type 0
-NoneAtWork history after = (other : Actor) → IsAtWork history other → IsAfter after other → ⊥
+NoneAtWork history after = (other : Actor) → IsAtWork history other → IsAfter actor_cmp after other → ⊥
 
 -- which of an actor's numbers begins before another: the lower one, but of the recoveries that restarts gave the newest
 abbrev pub ComesBy : Actor → ℕ → ℕ → Type 0

@@ -11,10 +11,11 @@ use Rattle.journal_model.specs.declared.entries.Order.TheVariants.{Stop as StopO
 use Rattle.script_text.specs.declared.script.Line.{Line}
 use Rattle.script_text.specs.declared.script.Line.TheVariants.{Seed, Do, Turns, All, Stop, Restart}
 use Rattle.script_text.specs.Script.{is_stop, seed_of}
-use Rattle.vold_book.specs.declared.power.Phase.{Phase}
-use Rattle.vold_book.specs.declared.power.Phase.TheVariants.{Halted}
-use Rattle.vold_book.specs.Book.{BookState, IsWhole}
-use Rattle.vold_book.specs.Turns.{new_power}
+use Rattle.journal_model.specs.declared.phase.Phase.{Phase}
+use Rattle.journal_model.specs.declared.phase.Phase.TheVariants.{Halted}
+use Rattle.vold_book.specs.State.{BookState}
+use Rattle.vold_book.specs.Whole.{IsWhole}
+use Rattle.vold_book.specs.Parts.{new_tracker}
 use Rattle.vold_run.specs.Calls.{CountsCalls}
 use Rattle.vold_run.specs.Fits.{ComesBy, LineFits, LinesFit, history_of, nothing}
 use Rattle.vold_run.specs.Rounds.{NothingLeft}
@@ -68,19 +69,19 @@ IsInOrder actor [] = Unit {0}
 IsInOrder actor (number ∷ numbers) = ((other : ℕ) → Contains numbers other → ComesBy actor number other) × IsInOrder actor numbers
 
 -- a Book between the lines of a script
-pub record IsBetweenLines {D : Type 0} (disk : D → Disk) (book : BookState D) : Type 0 where
-  pub whole : IsWhole disk book
-  pub level : book.power.level ≡ 1
-  pub order : (actor : Actor) → IfSome (map.get book.waiting actor) (IsInOrder actor)
+pub record IsBetweenLines {D : Type 0} (disk : D → Disk) (counts : D → Counts) (book : BookState D) : Type 0 where
+  pub whole : IsWhole disk counts book
+  pub level : book.tracker.level ≡ 1
+  pub order : (actor : Actor) → IfSome (map.get book.docket.waiting actor) (IsInOrder actor)
 
 -- what turns leave of a Book: they give no command, and neither stop the machine nor start it again
 pub record IsKept {D : Type 0} (disk : D → Disk) (counts : D → Counts) (before after : BookState D) : Type 0 where
-  pub commands : after.commands ≡ before.commands
-  pub orders : after.orders ≡ before.orders
+  pub commands : after.docket.commands ≡ before.docket.commands
+  pub orders : after.ledger.orders ≡ before.ledger.orders
   pub seed : after.seed ≡ before.seed
   pub counted : CountsCalls counts before after
-  pub still : before.power.phase ≢ Halted → after.power.phase ≢ Halted
-  pub between : IsBetweenLines disk after
+  pub still : before.tracker.phase ≢ Halted → after.tracker.phase ≢ Halted
+  pub between : IsBetweenLines disk counts after
 
 -- the machine is as the line wants it: a restart wants it to stand still, each other line that it doesn't
 abbrev pub IsReadyFor : Line → Phase → Type 0
@@ -93,30 +94,30 @@ IsReadyFor (Restart level) phase = phase ≡ Halted
 
 -- a line is done
 pub record IsLineDone {D : Type 0} (disk : D → Disk) (counts : D → Counts) (line : Line) (before after : BookState D) : Type 0 where
-  pub commands : after.commands ≡ before.commands ++ command_of line
-  pub orders : after.orders ≡ before.orders ++ order_of line
+  pub commands : after.docket.commands ≡ before.docket.commands ++ command_of line
+  pub orders : after.ledger.orders ≡ before.ledger.orders ++ order_of line
   pub seed : after.seed ≡ before.seed
   pub fits : LineFits line (history_of before) (history_of after)
   pub counted : CountsCalls counts before after
   pub idle : LeavesNothing line after
-  pub still : StandsStill (Some line) after.power.phase
-  pub between : IsBetweenLines disk after
+  pub still : StandsStill (Some line) after.tracker.phase
+  pub between : IsBetweenLines disk counts after
 
 -- lines are done, where `prior` is the line before them
 pub record AreLinesDone {D : Type 0} (disk : D → Disk) (counts : D → Counts) (prior : Option Line) (lines : List Line) (before after : BookState D) : Type 0 where
-  pub commands : after.commands ≡ before.commands ++ commands_of lines
-  pub orders : after.orders ≡ before.orders ++ orders_of lines
+  pub commands : after.docket.commands ≡ before.docket.commands ++ commands_of lines
+  pub orders : after.ledger.orders ≡ before.ledger.orders ++ orders_of lines
   pub seed : after.seed ≡ before.seed
   pub fits : LinesFit lines (history_of before) (history_of after)
   pub counted : CountsCalls counts before after
   pub idle : EndsIdle lines after
-  pub still : StandsStill (last_of prior lines) after.power.phase
-  pub between : IsBetweenLines disk after
+  pub still : StandsStill (last_of prior lines) after.tracker.phase
+  pub between : IsBetweenLines disk counts after
 
 -- a Book as it is opened for these lines, with nothing given out and nothing done
 pub record IsFresh {D : Type 0} (book : BookState D) (lines : List Line) : Type 0 where
   pub history : history_of book ≡ nothing
-  pub waiting : book.waiting ≡ map.empty
-  pub orders : book.orders ≡ []
+  pub waiting : book.docket.waiting ≡ map.empty
+  pub orders : book.ledger.orders ≡ []
   pub seed : book.seed ≡ seed_of lines
-  pub power : book.power ≡ new_power
+  pub tracker : book.tracker ≡ new_tracker

@@ -2,14 +2,15 @@
 use Rattle.std.specs.Prelude.{◌≡◌, ◌<◌, Bool, true, false}
 use Rattle.tree_model.specs.Disk.{Disk}
 use Rattle.journal_model.specs.declared.commands.Actor.{Actor}
-use Rattle.vold_book.specs.Book.{BookState, turns_left}
-use Rattle.vold_book.specs.Busy.{IsBusy}
-use Rattle.vold_book.specs.Powered.{TakesTurn}
+use Rattle.vold_book.specs.State.{BookState}
+use Rattle.vold_book.specs.Whole.{turns_left}
+use Rattle.docket.specs.Docket.{IsBusy}
+use Rattle.journal_model.specs.Machine.{TakesTurn}
 use Rattle.vold_run.specs.Fits.{RoundFits, history_of}
 
 -- no actor runs a command, and nothing waits for one; while the machine is down this is said of the recovery alone
 abbrev pub NothingLeft : {D : Type 0} → BookState D → Type 0
-NothingLeft book = (actor : Actor) → IsBusy book actor → ¬ (TakesTurn book.power.phase actor)
+NothingLeft book = (actor : Actor) → IsBusy book.docket actor → ¬ (TakesTurn book.tracker.phase actor)
 
 -- how a round ends: it was made, and fewer turns are left; or the machine took no turn, and nothing changed
 abbrev pub RoundEnds : {D : Type 0} → (D → Disk) → BookState D → BookState D → Bool → Type 0

@@ -9,7 +9,7 @@ use Rattle.journal_model.specs.declared.entries.Entry.{Entry}
 use Rattle.script_text.specs.Words.{line_of}
 use Rattle.script_text.specs.Journal.{journal_text}
 use Rattle.script_text.specs.Tree.{tree_section, shown}
-use Rattle.vold_book.specs.Book.{BookState}
+use Rattle.vold_book.specs.State.{BookState}
 
 -- the tree as it is printed
 abbrev pub tree_text : Tree → List ℕ
@@ -60,5 +60,5 @@ ShowsTree disk counts before after text =
 -- the journal and the tree, or where the device failed the line in place of the tree
 abbrev pub Shows : {D : Type 0} → (D → Disk) → (D → Counts) → BookState D → BookState D → List ℕ → Type 0
 Shows disk counts before after text =
-    ((text ≡ shown after.entries (view (disk after.tree))) × ReadsTree disk counts before after)
-    ⊎ ((text ≡ shown_unread after.entries) × FailsToRead disk counts before after)
+    ((text ≡ shown after.ledger.entries (view (disk after.tree))) × ReadsTree disk counts before after)
+    ⊎ ((text ≡ shown_unread after.ledger.entries) × FailsToRead disk counts before after)

@@ -1,7 +1,7 @@
 ghost use Rattle.std.specs.Prelude.{◌≢◌, ◌≤◌, ◌+◌, Err, IsOk, OnOk, length, None};
 ghost use Rattle.std.specs.List.{AllByRecursion};
 ghost use Rattle.script_text.specs.Script.{most_lines, IsLine, AreInOrder};
-ghost use Rattle.vold_book.specs.Book.{IsWhole};
+ghost use Rattle.vold_book.specs.Whole.{IsWhole};
 ghost use Rattle.vold_run.specs.Lines.{AreLinesDone, IsLineDone, IsBetweenLines, IsReadyFor, StandsStill};
 
 use crate::rounds;
@@ -17,13 +17,13 @@ pub fn do_lines<T: TreeDisk>(
     book: &mut Book<T>,
     lines: &[Line],
 ) -> Result<(), NoMemory>
-    requires between { IsBetweenLines T.disk book.old }
-    requires still { StandsStill None book.old.power.phase }
-    requires few { length book.old.commands + length lines.now ≤ most_lines }
+    requires between { IsBetweenLines T.disk T.counts book.old }
+    requires still { StandsStill None book.old.tracker.phase }
+    requires few { length book.old.docket.commands + length lines.now ≤ most_lines }
     requires lines { AllByRecursion IsLine lines.now }
     requires order { AreInOrder None lines.now }
     ensures done { OnOk result (AreLinesDone T.disk T.counts None lines.now book.old book.new) }
-    ensures whole { IsWhole T.disk book.new }
+    ensures whole { IsWhole T.disk T.counts book.new }
 {
     for line in lines {
         do_line(alloc, book, line)?;
@@ -33,12 +33,12 @@ pub fn do_lines<T: TreeDisk>(
 
 /// Does one line.
 fn do_line<T: TreeDisk>(alloc: Global, book: &mut Book<T>, line: &Line) -> Result<(), NoMemory>
-    requires between { IsBetweenLines T.disk book.old }
-    requires ready { IsReadyFor line.now book.old.power.phase }
-    requires few { length book.old.commands + 1 ≤ most_lines }
+    requires between { IsBetweenLines T.disk T.counts book.old }
+    requires ready { IsReadyFor line.now book.old.tracker.phase }
+    requires few { length book.old.docket.commands + 1 ≤ most_lines }
     requires line { IsLine line.now }
     ensures done { OnOk result (IsLineDone T.disk T.counts line.now book.old book.new) }
-    ensures whole { IsWhole T.disk book.new }
+    ensures whole { IsWhole T.disk T.counts book.new }
 {
     match line {
         Line::Seed(_) => Ok(()),

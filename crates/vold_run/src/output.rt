@@ -1,7 +1,7 @@
 ghost use Rattle.std.specs.Prelude.{◌≡◌, [], ◌∷◌, ◌++◌, IfOk, OnOk, IsErrOf};
 ghost use Rattle.std.specs.FinMap as map;
 ghost use Rattle.tree_model.specs.Disk.{view};
-ghost use Rattle.vold_book.specs.Book.{IsWhole};
+ghost use Rattle.vold_book.specs.Whole.{IsWhole};
 ghost use Rattle.vold_book.specs.Stands.{IsLooked};
 ghost use Rattle.vold_run.specs.Shown.{FailsToRead, ReadsTree, ShowsTree, Shows};
 
@@ -17,7 +17,7 @@ const UNREAD: &[u8] = b"unread tree\n";
 pub fn show<T: TreeDisk>(alloc: Global, book: &mut Book<T>) -> Result<Bytes, NoMemory>
     ensures shown { IfOk result (Shows T.disk T.counts book.old book.new) }
     ensures looked { IsLooked T.disk book.old book.new }
-    ensures whole { IsWhole T.disk book.new }
+    ensures whole { IsWhole T.disk T.counts book.new }
 {
     let journal = print_journal(alloc, book.journal().as_slice())?;
     let tree = tree_text(alloc, book)?;
@@ -38,7 +38,7 @@ fn joined(alloc: Global, first: &[u8], second: &[u8]) -> Result<Bytes, NoMemory>
 fn tree_text<T: TreeDisk>(alloc: Global, book: &mut Book<T>) -> Result<Bytes, NoMemory>
     ensures shown { IfOk result (ShowsTree T.disk T.counts book.old book.new) }
     ensures looked { IsLooked T.disk book.old book.new }
-    ensures whole { IsWhole T.disk book.new }
+    ensures whole { IsWhole T.disk T.counts book.new }
 {
     match read_dirs(alloc, book) {
         Ok(dirs) => print_tree(alloc, b"tree", dirs.as_slice(), None),
@@ -53,7 +53,7 @@ fn read_dirs<T: TreeDisk>(alloc: Global, book: &mut Book<T>) -> Result<Vec<(Plac
     ensures answered { OnOk result (ReadsTree T.disk T.counts book.old book.new) }
     ensures failed { IsErrOf result DevFault.Failed → FailsToRead T.disk T.counts book.old book.new }
     ensures looked { IsLooked T.disk book.old book.new }
-    ensures whole { IsWhole T.disk book.new }
+    ensures whole { IsWhole T.disk T.counts book.new }
 {
     let places = book.places()?;
     let mut dirs = Vec::new(alloc);

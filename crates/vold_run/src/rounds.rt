@@ -1,6 +1,6 @@
 ghost use Rattle.std.specs.Prelude.{◌<◌, false, true, None, IfOk, OnOk, Some};
-ghost use Rattle.vold_book.specs.Book.{IsWhole, turns_left};
-ghost use Rattle.vold_book.specs.Busy.{IsNextBusy};
+ghost use Rattle.vold_book.specs.Whole.{IsWhole, turns_left};
+ghost use Rattle.docket.specs.Docket.{IsNextBusy};
 ghost use Rattle.vold_run.specs.Fits.{AllFits, TurnsOf, history_of};
 ghost use Rattle.vold_run.specs.Lines.{IsBetweenLines, IsKept};
 ghost use Rattle.vold_run.specs.Rounds.{NothingLeft, RoundEnds};
@@ -12,11 +12,11 @@ use vold_book::{Book, Turn};
 /// Makes rounds, in each of which every busy actor has one turn in the order of actors, until the machine takes no turn of
 /// a busy actor.
 pub fn finish<T: TreeDisk>(book: &mut Book<T>) -> Result<(), NoMemory>
-    requires { IsBetweenLines T.disk book.old }
+    requires { IsBetweenLines T.disk T.counts book.old }
     ensures fits { OnOk result (AllFits (history_of book.old) (history_of book.new)) }
     ensures idle { OnOk result (NothingLeft book.new) }
     ensures kept { OnOk result (IsKept T.disk T.counts book.old book.new) }
-    ensures whole { IsWhole T.disk book.new }
+    ensures whole { IsWhole T.disk T.counts book.new }
 {
     while let Some(first) = book.first_busy() {
         if !round(book, first)? {
@@ -29,11 +29,11 @@ pub fn finish<T: TreeDisk>(book: &mut Book<T>) -> Result<(), NoMemory>
 /// Makes one round from the first busy actor on, which leaves fewer turns. The answer is false where the machine takes no
 /// turn of that actor, and then none of the others either.
 fn round<T: TreeDisk>(book: &mut Book<T>, first: Actor) -> Result<bool, NoMemory>
-    requires between { IsBetweenLines T.disk book.old }
-    requires first { IsNextBusy book.old None (Some first) }
+    requires between { IsBetweenLines T.disk T.counts book.old }
+    requires first { IsNextBusy book.old.docket None (Some first) }
     ensures ended { IfOk result (RoundEnds T.disk book.old book.new) }
     ensures kept { OnOk result (IsKept T.disk T.counts book.old book.new) }
-    ensures whole { IsWhole T.disk book.new }
+    ensures whole { IsWhole T.disk T.counts book.new }
 {
     let Turn::Went = book.advance(first)? else {
         return Ok(false);
@@ -50,10 +50,10 @@ fn round<T: TreeDisk>(book: &mut Book<T>, first: Actor) -> Result<bool, NoMemory
 
 /// Gives the actor so many turns, of which those do nothing that it can't make.
 pub fn turns<T: TreeDisk>(book: &mut Book<T>, actor: Actor, count: u32) -> Result<(), NoMemory>
-    requires { IsBetweenLines T.disk book.old }
+    requires { IsBetweenLines T.disk T.counts book.old }
     ensures fits { OnOk result (TurnsOf actor count (history_of book.old) (history_of book.new)) }
     ensures kept { OnOk result (IsKept T.disk T.counts book.old book.new) }
-    ensures whole { IsWhole T.disk book.new }
+    ensures whole { IsWhole T.disk T.counts book.new }
 {
     for _ in 0..count {
         book.advance(actor)?;

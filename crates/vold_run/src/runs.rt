@@ -5,8 +5,8 @@ ghost use Rattle.std.specs.String.{string_bytes};
 ghost use Rattle.script_text.specs.Script.{seed_of, IsPlaced};
 ghost use Rattle.script_text.specs.Status.{message_of};
 ghost use Rattle.tree_model.specs.Counted.{Rose};
-ghost use Rattle.vold_book.specs.Book.{IsWhole};
-ghost use Rattle.vold_book.specs.Turns.{new_book};
+ghost use Rattle.vold_book.specs.Whole.{IsWhole};
+ghost use Rattle.vold_book.specs.Turns.{new_book, opened_at};
 ghost use Rattle.vold_io.specs.Transfers.{LosesAtMost};
 ghost use Rattle.vold_run.specs.Lines.{IsFresh};
 ghost use Rattle.vold_run.specs.Input.{most_bytes, IsAccepted, IsRefused, RefusedCame, SomeScriptCame};
@@ -39,14 +39,14 @@ pub fn run<S: Source, K: Sink, T: TreeDisk>(
     ensures bad_script { result.status ≡ Status.BadScript → (S.fault_count source.new ≡ S.fault_count source.old) × RefusedCame (S.rest source.old) (S.rest source.new) }
     ensures refused { IsAccepted (map string_bytes words.now) → ¬ (Rose (S.fault_count source.old) (S.fault_count source.new)) → IfSome (S.rest source.old) (λ told. IsRefused told → InPlaceOf Status.BadScript result.status) }
     ensures write_fault { result.status ≡ Status.WriteFault → Rose (K.fault_count sink.old) (K.fault_count sink.new) }
-    ensures done { result.status ≡ Status.Done → IsSomeAnd result.book (RunPrints T.disk T.counts (new_book tree) (S.rest source.old) (S.rest source.new) (K.taken sink.old) (K.taken sink.new)) }
+    ensures done { result.status ≡ Status.Done → IsSomeAnd result.book (RunPrints T.disk T.counts (new_book tree (opened_at (T.counts tree))) (S.rest source.old) (S.rest source.new) (K.taken sink.old) (K.taken sink.new)) }
     ensures message { HasMessage result.status → (K.taken sink.new ≡ append_known (K.taken sink.old) (message_of result.status)) × IsNone result.book }
-    ensures front { result.status ≡ Status.WriteFault → WritesFront T.disk T.counts (new_book tree) (map string_bytes words.now) (S.rest source.old) (S.rest source.new) (S.fault_count source.old) (S.fault_count source.new) (K.taken sink.old) (K.taken sink.new) result.book }
-    ensures no_memory { result.status ≡ Status.NoMemory → (K.taken sink.new ≡ K.taken sink.old) ⊎ (WritesFront T.disk T.counts (new_book tree) (map string_bytes words.now) (S.rest source.old) (S.rest source.new) (S.fault_count source.old) (S.fault_count source.new) (K.taken sink.old) (K.taken sink.new) result.book) }
+    ensures front { result.status ≡ Status.WriteFault → WritesFront T.disk T.counts (new_book tree (opened_at (T.counts tree))) (map string_bytes words.now) (S.rest source.old) (S.rest source.new) (S.fault_count source.old) (S.fault_count source.new) (K.taken sink.old) (K.taken sink.new) result.book }
+    ensures no_memory { result.status ≡ Status.NoMemory → (K.taken sink.new ≡ K.taken sink.old) ⊎ (WritesFront T.disk T.counts (new_book tree (opened_at (T.counts tree))) (map string_bytes words.now) (S.rest source.old) (S.rest source.new) (S.fault_count source.old) (S.fault_count source.new) (K.taken sink.old) (K.taken sink.new) result.book) }
     ensures book { IfSome result.book (λ _. IsAccepted (map string_bytes words.now) × SomeScriptCame (S.rest source.old) (S.rest source.new) × InPlaceOf Status.Done result.status) }
     ensures read { IsAccepted (map string_bytes words.now) → ¬ (Rose (S.fault_count source.old) (S.fault_count source.new)) → IfSome (S.rest source.old) (λ told. ¬ (IsRefused told) → IsSome result.book ⊎ (result.status ≡ Status.NoMemory)) }
     ensures complete { IsAccepted (map string_bytes words.now) → S.never_fails source.old → K.never_fails sink.old → IfSome (S.rest source.old) (λ told. ¬ (IsRefused told) → (result.status ≡ Status.Done) ⊎ (result.status ≡ Status.NoMemory)) }
-    ensures whole { IfSome result.book (IsWhole T.disk) }
+    ensures whole { IfSome result.book (IsWhole T.disk T.counts) }
 {
     match input::script_of(alloc, words, source) {
         Ok(script) => run_script(alloc, &script, sink, tree),
@@ -65,10 +65,10 @@ fn run_script<K: Sink, T: TreeDisk>(
     tree: T,
 ) -> RunEnd<T>
     requires empty { T.disk tree ≡ record { stable = finite.empty; pending = [] } }
-    ensures ended { LinesEnd T.disk T.counts (new_book tree (seed_of script.now)) script.now (K.taken sink.old) (K.taken sink.new) result.status result.book }
+    ensures ended { LinesEnd T.disk T.counts (new_book tree (opened_at (T.counts tree)) (seed_of script.now)) script.now (K.taken sink.old) (K.taken sink.new) result.status result.book }
     ensures faults { result.status ≡ Status.WriteFault → Rose (K.fault_count sink.old) (K.fault_count sink.new) }
     ensures steady { K.never_fails sink.old → result.status ≢ Status.WriteFault }
-    ensures whole { IfSome result.book (IsWhole T.disk) }
+    ensures whole { IfSome result.book (IsWhole T.disk T.counts) }
 {
     match opened(alloc, script.seed(), tree) {
         Err(NoMemory) => RunEnd {
@@ -89,8 +89,8 @@ fn run_script<K: Sink, T: TreeDisk>(
 fn opened<T: TreeDisk>(alloc: Global, seed: &[u8], tree: T) -> Result<Book<T>, NoMemory>
     requires empty { T.disk tree ≡ record { stable = finite.empty; pending = [] } }
     requires short { length seed.now ≤ 64 }
-    ensures opened { IfOk result (λ book. book ≡ new_book tree seed.now) }
-    ensures whole { IfOk result (IsWhole T.disk) }
+    ensures opened { IfOk result (λ book. book ≡ new_book tree (opened_at (T.counts tree)) seed.now) }
+    ensures whole { IfOk result (IsWhole T.disk T.counts) }
 {
     Book::open(alloc, tree, Bytes::copy(alloc, seed)?, 1)
 }
@@ -102,13 +102,13 @@ fn work<K: Sink, T: TreeDisk>(
     lines: &[Line],
     sink: &mut K,
 ) -> Status
-    requires whole { IsWhole T.disk book.old }
+    requires whole { IsWhole T.disk T.counts book.old }
     requires fresh { IsFresh book.old lines.now }
     requires placed { IsPlaced lines.now }
     ensures ended { WorkEnds T.disk T.counts book.old lines.now book.new (K.taken sink.old) (K.taken sink.new) result }
     ensures faults { result ≡ Status.WriteFault → Rose (K.fault_count sink.old) (K.fault_count sink.new) }
     ensures steady { K.never_fails sink.old → result ≢ Status.WriteFault }
-    ensures whole { IsWhole T.disk book.new }
+    ensures whole { IsWhole T.disk T.counts book.new }
 {
     match done(alloc, book, lines) {
         Ok(text) => write(sink, text.as_slice(), Status::Done),
@@ -118,11 +118,11 @@ fn work<K: Sink, T: TreeDisk>(
 
 /// Does the lines on a new Book, and answers the text that shows it.
 fn done<T: TreeDisk>(alloc: Global, book: &mut Book<T>, lines: &[Line]) -> Result<Bytes, NoMemory>
-    requires whole { IsWhole T.disk book.old }
+    requires whole { IsWhole T.disk T.counts book.old }
     requires fresh { IsFresh book.old lines.now }
     requires placed { IsPlaced lines.now }
     ensures done { IfOk result (IsDone T.disk T.counts book.old lines.now book.new) }
-    ensures whole { IsWhole T.disk book.new }
+    ensures whole { IsWhole T.disk T.counts book.new }
 {
     lines::do_lines(alloc, book, lines)?;
     output::show(alloc, book)

@@ -8,8 +8,8 @@ pub do_line-requires-clause-ready : goal.do_line-requires-clause-ready
 do_line-requires-clause-ready g c =
     let lines = c.args.lines.now in
     let i = c.loop-line.line-index in
-    subst (λ line. IsReadyFor line c.loop-line.book.power.phase) (sym c.line-item.is)
-    (ready-for (last_of None (take i lines)) (get_or lines i c.line-item.result) c.loop-line.book.power.phase (follows None lines i c.line-item.result c.loop-line-test.true c.requires.order) c.loop-line.invariant.done.still)
+    subst (λ line. IsReadyFor line c.loop-line.book.tracker.phase) (sym c.line-item.is)
+    (ready-for (last_of None (take i lines)) (get_or lines i c.line-item.result) c.loop-line.book.tracker.phase (follows None lines i c.line-item.result c.loop-line-test.true c.requires.order) c.loop-line.invariant.done.still)
 
 pub loop-line-preserved : goal.loop-line-preserved
 loop-line-preserved g c =

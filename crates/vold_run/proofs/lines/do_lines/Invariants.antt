@@ -6,5 +6,5 @@ use Rattle.vold_run.proofs.lines.do_lines.Given as goal
 abbrev pub invariant-loop-line : goal.invariant-loop-line
 invariant-loop-line g l = record {
   done : AreLinesDone g.T.TreeDisk.disk g.T.TreeDisk.counts None (take l.line-index l.lines) l.fn.book l.book;
-  few : length l.book.commands ≤ length l.fn.book.commands + l.line-index;
+  few : length l.book.docket.commands ≤ length l.fn.book.docket.commands + l.line-index;
 }

@@ -1,6 +1,6 @@
 use Rattle.std.proofs.Common.{suc, sym, subst}
 use Rattle.std.specs.Prelude.{None}
-use Rattle.vold_book.specs.Busy.{IsNextBusy}
+use Rattle.docket.specs.Docket.{IsNextBusy}
 use Rattle.vold_run.specs.Fits.{AllFits, history_of}
 use Rattle.vold_run.specs.Rounds.{RoundEnds}
 use Rattle.vold_run.proofs.Kept.{kept-joined}
@@ -25,5 +25,5 @@ loop-first-preserved g c =
 pub returns-clause-fits : goal.returns-clause-fits
 returns-clause-fits g c =
     let rounds = c.loop-first.invariant.rounds in
-    let none = subst (IsNextBusy c.loop-first.book None) c.in_default.is c.first_busy.ensures in
+    let none = subst (IsNextBusy c.loop-first.book.docket None) c.in_default.is c.first_busy.ensures.busy in
     all-ends g.T.TreeDisk.disk g.T.TreeDisk.counts (history_of c.args.book.now) c.loop-first.book rounds.0 rounds.1 c.loop-first.invariant.kept.between (λ actor busy. absurd (none actor busy tt))

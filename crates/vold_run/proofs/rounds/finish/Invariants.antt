@@ -1,5 +1,5 @@
 use Rattle.std.proofs.Common.{ℕ}
-use Rattle.vold_book.specs.Book.{turns_left}
+use Rattle.vold_book.specs.Whole.{turns_left}
 use Rattle.vold_run.specs.Fits.{RoundsFit, history_of}
 use Rattle.vold_run.specs.Lines.{IsKept}
 use Rattle.vold_run.proofs.rounds.finish.Given as goal

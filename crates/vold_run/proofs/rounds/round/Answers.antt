@@ -1,9 +1,9 @@
 use Rattle.std.proofs.Common.{rules, arith, sym, subst, ◌<◌}
 use Rattle.std.specs.Prelude.{Some}
-use Rattle.vold_book.specs.Book.{turns_left}
+use Rattle.vold_book.specs.Whole.{turns_left}
 use Rattle.vold_run.specs.Fits.{history_of}
 use Rattle.vold_run.proofs.Kept.{turn-kept, kept-joined}
-use Rattle.vold_run.proofs.Turned.{RoundGoes, went, waited, all-wait, round-begins, round-goes, round-ends, round-waits}
+use Rattle.vold_run.proofs.Turned.{RoundGoes, went, went-falls, waited, all-wait, round-begins, round-goes, round-ends, round-waits}
 use Rattle.vold_run.proofs.rounds.round.Goals as goal
 
 pub returns-in_default : goal.returns-in_default
@@ -28,9 +28,9 @@ loop-next-init g c =
     let answers = c.in_ok-advance.ensures.turn in
     let goes = went disk counts before after c.args.first turn c.in-Went.is answers in
     record {
-      falls = goes.falls;
+      falls = went-falls disk counts before after turn c.in-Went.is c.in_ok-advance.ensures.falls;
       kept = turn-kept disk counts before after c.args.first turn c.requires.between answers c.in_ok-advance.ensures.whole;
-      goes = round-begins disk counts before after c.args.first c.next_busy-next.result c.requires.between c.requires.first goes c.next_busy-next.ensures;
+      goes = round-begins disk counts before after c.args.first c.next_busy-next.result c.requires.between c.requires.first goes c.next_busy-next.ensures.busy;
     }
 
 pub returns-in_default-2 : goal.returns-in_default-2
@@ -66,9 +66,9 @@ loop-next-preserved g c =
     let going : RoundGoes (history_of start) before (Some c.in-Some.actor) = subst (RoundGoes (history_of start) before) c.in-Some.is c.loop-next.invariant.goes in
     let goes = went disk counts before after c.in-Some.actor turn c.in-Went-2.is answers in
     record {
-      falls = let less = goes.falls in let already = c.loop-next.invariant.falls in omega (arith, less, already);
+      falls = let less = went-falls disk counts before after turn c.in-Went-2.is c.in_ok-advance-2.ensures.falls in let already = c.loop-next.invariant.falls in omega (arith, less, already);
       kept = kept-joined disk counts start before after kept (turn-kept disk counts before after c.in-Some.actor turn kept.between answers c.in_ok-advance-2.ensures.whole);
-      goes = round-goes disk counts (history_of start) before after c.in-Some.actor c.next_busy-next-in-Some.result going kept.between goes c.next_busy-next-in-Some.ensures;
+      goes = round-goes disk counts (history_of start) before after c.in-Some.actor c.next_busy-next-in-Some.result going kept.between goes c.next_busy-next-in-Some.ensures.busy;
     }
 
 pub returns-clause-ended : goal.returns-clause-ended

@@ -3,7 +3,7 @@ use Rattle.vold_run.proofs.Done.{shown_is_done, fresh-between}
 use Rattle.vold_run.proofs.runs.done.Goals as goal
 
 pub do_lines-requires-clause-between : goal.do_lines-requires-clause-between
-do_lines-requires-clause-between g c = fresh-between g.T.TreeDisk.disk c.args.book.now c.args.lines.now c.requires.whole c.requires.fresh
+do_lines-requires-clause-between g c = fresh-between g.T.TreeDisk.disk g.T.TreeDisk.counts c.args.book.now c.args.lines.now c.requires.whole c.requires.fresh
 
 pub returns-clause-done : goal.returns-clause-done
 returns-clause-done g c =
