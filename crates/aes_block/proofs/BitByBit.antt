@@ -1,11 +1,13 @@
 -- A product of two bytes, one bit of the left one after the other, and the doubling of a byte.
-use Rattle.std.proofs.Common.{◌≡◌, ℕ, zero, suc, ◌+◌, ◌/◌, ◌%◌, ◌^◌, ◌<◌, cond, true, ◌==◌, bit_xor, refl, sym, ◌∙◌, ap, arith, lt_of_le_of_lt, div-le_self}
+use Rattle.std.proofs.Common.{◌≡◌, ℕ, zero, suc, ◌+◌, ◌/◌, ◌%◌, ◌^◌, ◌<◌, cond, true, ◌==◌, bit_xor, refl, sym, ◌∙◌}
+use Rattle.std.proofs.Common.{ap, arith, lt_of_le_of_lt, div-le_self}
 use Rattle.std.specs.Int.Bits.{xor_self}
 use Rattle.std.proofs.lemmas.Bool.{eqb-true}
 use Rattle.std.proofs.lemmas.Nat.{shr-shr}
 use Rattle.seal_model.specs.Polynomial.{bits}
 use Rattle.seal_model.specs.Aes.{multiply, byte_modulus, polynomial_of}
-use Rattle.seal_model.proofs.ByteField.{all_below, all_below-at, multiply_assoc, multiply_comm, one_multiply, multiply-xor}
+use Rattle.seal_model.proofs.ByteField.{all_below, all_below-at, multiply_assoc}
+use Rattle.seal_model.proofs.ByteField.{multiply_comm, one_multiply, multiply-xor}
 use Rattle.seal_model.specs.Lanes.{where_set}
 use Rattle.seal_model.proofs.Pointwise.{bit_test}
 

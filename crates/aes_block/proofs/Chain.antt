@@ -4,7 +4,7 @@ use Rattle.std.proofs.lemmas.Bool.{eqb-true}
 use Rattle.seal_model.specs.Polynomial.{bits}
 use Rattle.seal_model.specs.Aes.{multiply, byte_power, byte_modulus, polynomial_of, affine, inverse, s_box}
 use Rattle.seal_model.proofs.BytePowers.{byte_power-lt, byte_power-one, power_product, power_power, inverse_is_power}
-use Rattle.seal_model.proofs.ByteField.{all_below, all_below-at, inverse-lt}
+use Rattle.seal_model.proofs.ByteField.{all_below, all_below-at, byte_field}
 use Rattle.aes_block.specs.Lanes.{linear}
 use Rattle.aes_block.specs.declared.lanes.TheConstants.{SQUARES, FOURTH_POWERS, SIXTEENTH_POWERS, AFFINE_MAP}
 
@@ -65,4 +65,5 @@ steps_invert x x2 x3 x12 x15 x240 x252 y h d2 d3 d12 d15 d240 d252 dy =
 pub s_box_by : (x y image r : ℕ) → y ≡ inverse x → image ≡ linear AFFINE_MAP y → r ≡ bit_xor image 0x63 → r ≡ s_box x
 unfolding s_box
 s_box_by x y image r e f g =
-    g ∙ ap (λ k. bit_xor k 0x63) (f ∙ ap (linear AFFINE_MAP) e) ∙ affine_by_images (inverse x) (inverse-lt x)
+    g ∙ ap (λ k. bit_xor k 0x63) (f ∙ ap (linear AFFINE_MAP) e)
+    ∙ affine_by_images (inverse x) (byte_field.inverse_closed x)

@@ -1,16 +1,21 @@
 -- One more step of a loop over a block.
-use Rattle.std.proofs.Common.{◌≡◌, ℕ, zero, suc, ◌+◌, ◌<◌, List, [], ◌∷◌, ◌++◌, length, get_or, set, take, drop, map, bit_xor, refl, sym, ◌∙◌, ap, arith, add-one}
+use Rattle.std.proofs.Common.{◌≡◌, ℕ, zero, suc, ◌+◌, ◌<◌, List, [], ◌∷◌, ◌++◌, length, get_or, set, take, drop, map}
+use Rattle.std.proofs.Common.{bit_xor, refl, sym, ◌∙◌, ap, arith, add-one}
 use Rattle.seal_model.specs.Bytes.{xor_bytes}
 
+-- f at the first i bytes of s, and then the rest of s
+abbrev pub mapped : (ℕ → ℕ) → List ℕ → ℕ → List ℕ
+mapped f s i = map f (take i s) ++ drop i s
+
 map-suc : (f : ℕ → ℕ) (s : List ℕ) (i : ℕ) → i < length s
-    → set (map f (take i s) ++ drop i s) i (f (get_or (map f (take i s) ++ drop i s) i 0)) ≡ map f (take (suc i) s) ++ drop (suc i) s
+    → set (mapped f s i) i (f (get_or (mapped f s i) i 0)) ≡ mapped f s (suc i)
 map-suc f [] i h = absurd (omega arith)
 map-suc f (a ∷ s) zero h = refl
 map-suc f (a ∷ s) (suc i) h = ap (λ t. f a ∷ t) (map-suc f s i (omega arith))
 
 pub map-step : (f : ℕ → ℕ) (s : List ℕ) (i : ℕ) → i < length s
-    → set (map f (take i s) ++ drop i s) i (f (get_or (map f (take i s) ++ drop i s) i 0)) ≡ map f (take (i + 1) s) ++ drop (i + 1) s
-map-step f s i h = map-suc f s i h ∙ ap (λ k. map f (take k s) ++ drop k s) (sym (add-one i))
+    → set (mapped f s i) i (f (get_or (mapped f s i) i 0)) ≡ mapped f s (i + 1)
+map-step f s i h = map-suc f s i h ∙ ap (mapped f s) (sym (add-one i))
 
 -- the sum of the first i bytes of s and t, and then the rest of s
 abbrev pub summed : List ℕ → List ℕ → ℕ → List ℕ

@@ -1,5 +1,6 @@
 -- Rows and columns of sixteen by sixteen bytes.
-use Rattle.std.proofs.Common.{◌≡◌, ℕ, zero, suc, ◌+◌, ◌<◌, List, [], ◌∷◌, length, get_or, map, drop, sym, ◌∙◌, ap, arith, add-one}
+use Rattle.std.proofs.Common.{◌≡◌, ℕ, zero, suc, ◌+◌, ◌<◌, List, [], ◌∷◌, length}
+use Rattle.std.proofs.Common.{get_or, map, drop, sym, ◌∙◌, ap, arith, add-one}
 use Rattle.std.proofs.Math.Seq.{drop-cons, drop-length}
 use Rattle.seal_model.proofs.Lists.{bytes_from, bytes_from-is, each_below}
 use Rattle.aes_block.specs.Lanes.{lane, columns}

@@ -1,7 +1,8 @@
 // The key schedule (FIPS 197, section 5.2), and the cipher over it (section 5.1).
 
 ghost use Rattle.std.specs.Prelude.{◌≡◌, ℕ, ◌-◌, ◌<◌, ◌≤◌, List, map};
-ghost use Rattle.seal_model.specs.Aes.{cipher, encrypt, key_schedule, key_step, key_word, next_word, round_key, x_power};
+ghost use Rattle.seal_model.specs.Aes.{cipher, encrypt, key_schedule, key_step};
+ghost use Rattle.seal_model.specs.Aes.{key_word, next_word, round_key, x_power};
 ghost use Rattle.seal_model.specs.Bytes.{xor_bytes};
 ghost use Rattle.aes_block.specs.Key.{key_of};
 

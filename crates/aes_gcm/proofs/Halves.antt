@@ -1,6 +1,6 @@
 -- Elements in two halves of 64 bits: x times an element, a choice, and a product by half of a factor.
-use Rattle.std.proofs.Common.{◌≡◌, ℕ, ◌+◌, ◌*◌, ◌/◌, ◌%◌, ◌^◌, ◌<◌, cond, Bool, true, false, ◌==◌, List, [], ◌++◌, length}
-use Rattle.std.proofs.Common.{bit_and, bit_or, bit_xor, refl, sym, ◌∙◌, ap, arith, add-one}
+use Rattle.std.proofs.Common.{◌≡◌, ℕ, ◌+◌, ◌*◌, ◌/◌, ◌%◌, ◌^◌, ◌<◌, cond, Bool, true, false, ◌==◌, List, [], ◌++◌}
+use Rattle.std.proofs.Common.{length, bit_and, bit_or, bit_xor, refl, sym, ◌∙◌, ap, arith, add-one}
 use Rattle.std.specs.Int.Bits.{xor_zero_r, or_shifted_r}
 use Rattle.std.proofs.lemmas.List.{append-nil}
 use Rattle.std.proofs.lemmas.Nat.{and_mask, xor_block, mul-add-lt}

@@ -1,13 +1,16 @@
 -- Products by four coefficients at a time.
-use Rattle.std.proofs.Common.{◌≡◌, ℕ, zero, suc, ◌+◌, ◌*◌, ◌/◌, ◌%◌, ◌^◌, ◌<◌, Bool, true, false, ◌==◌, List, [], ◌∷◌, ◌++◌, length, get_or, bit_and, bit_xor, refl, sym, ◌∙◌, ap, arith}
+use Rattle.std.proofs.Common.{◌≡◌, ℕ, zero, suc, ◌+◌, ◌*◌, ◌/◌, ◌%◌, ◌^◌, ◌<◌, Bool, true, false, ◌==◌, List, [], ◌∷◌}
+use Rattle.std.proofs.Common.{◌++◌, length, get_or, bit_and, bit_xor, refl, sym, ◌∙◌, ap, arith}
 use Rattle.std.specs.Int.Bits.{xor_zero_r}
 use Rattle.std.proofs.lemmas.Bool.{eqb-true}
 use Rattle.std.proofs.lemmas.Nat.{and_mask, xor_block, xor_comm, shr_split}
 use Rattle.seal_model.specs.Polynomial.{add, scaled, zeros, times_x, bits, number_of}
 use Rattle.seal_model.specs.Gcm.{block_modulus, field_product}
-use Rattle.seal_model.proofs.Algebra.{Same, add_nil, add_assoc, add_zeros, Same-times_x, times_x-add, times-zeros, one_times}
+use Rattle.seal_model.proofs.Algebra.{Same, add_nil, add_assoc, add_zeros}
+use Rattle.seal_model.proofs.Algebra.{Same-times_x, times_x-add, times-zeros, one_times}
 use Rattle.seal_model.proofs.Bits.{Same-length, length-Same, length-bits, bits-xor, bits-low, bits-of_length}
-use Rattle.seal_model.proofs.BlockField.{modulus_rest, field_product-nil, field_product-cons, field_product_add, length-field_product}
+use Rattle.seal_model.proofs.BlockField.{modulus_rest, field_product-nil}
+use Rattle.seal_model.proofs.BlockField.{field_product-cons, field_product_add, length-field_product}
 use Rattle.seal_model.proofs.ByteField.{all_below, all_below-at}
 use Rattle.seal_model.proofs.Lists.{each_below}
 use Rattle.aes_gcm.specs.Hash.{AreMultiples, times_x_power}

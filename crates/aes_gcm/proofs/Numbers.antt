@@ -1,7 +1,9 @@
 -- Numbers of 128 bits as elements of the field.
-use Rattle.std.proofs.Common.{◌≡◌, ℕ, zero, suc, ◌+◌, ◌*◌, ◌/◌, ◌%◌, ◌^◌, ◌<◌, false, ◌==◌, List, [], ◌∷◌, ◌++◌, length, get_or, take, drop, bit_and, bit_xor, refl, sym, ◌∙◌, ap, subst, arith}
+use Rattle.std.proofs.Common.{◌≡◌, ℕ, zero, suc, ◌+◌, ◌*◌, ◌/◌, ◌%◌, ◌^◌, ◌<◌, false, ◌==◌, List, [], ◌∷◌, ◌++◌}
+use Rattle.std.proofs.Common.{length, get_or, take, drop, bit_and, bit_xor, refl, sym, ◌∙◌, ap, subst, arith}
 use Rattle.std.specs.Int.{w128, byte_at, bytes_high_first, from_be_bytes}
-use Rattle.std.proofs.lemmas.Nat.{shr-shr, shr_split, and_mask, xor_shr, xor_mod, pow-add, pow_pos, mod_below, mul-add-lt}
+use Rattle.std.proofs.lemmas.Nat.{shr-shr, shr_split, and_mask, xor_shr, xor_mod}
+use Rattle.std.proofs.lemmas.Nat.{pow-add, pow_pos, mod_below, mul-add-lt}
 use Rattle.std.proofs.Math.Nat.{pow-suc}
 use Rattle.std.proofs.lemmas.Nat.Bits.{bit_at_above, bit_at_lowest}
 use Rattle.seal_model.specs.Polynomial.{add, scaled, but_last, last_of, times_x, bit, bits, number_of}
@@ -16,7 +18,8 @@ but_last-bits : (n x : ℕ) → but_last (bit x n) (bits n x) ≡ bits n (x / 2)
 unfolding bits
 but_last-bits zero x = refl
 but_last-bits (suc n) x =
-    let moved : bit x (suc n) ≡ bit (x / 2) n = ap (λ d. d % 2 == 1) (ap (λ k. x / 2 ^ k) (omega arith) ∙ sym (shr-shr x 1 n)) in
+    let moved : bit x (suc n) ≡ bit (x / 2) n =
+    ap (λ d. d % 2 == 1) (ap (λ k. x / 2 ^ k) (omega arith) ∙ sym (shr-shr x 1 n)) in
     λ i. moved i ∷ but_last-bits n x i
 
 last_of-bits : (n x : ℕ) → last_of (bit x n) (bits n x) ≡ bit x 0
@@ -45,7 +48,8 @@ value-lt : (s : List ℕ) → AreBytes s → value s < 2 ^ (8 * length s)
 unfolding value
 value-lt [] h = omega arith
 value-lt (b ∷ s) h =
-    subst (λ k. b * 2 ^ (8 * length s) + value s < k) (sym (pow-add 2 (8 * length s) 8) ∙ ap (λ k. 2 ^ k) (omega arith))
+    subst (λ k. b * 2 ^ (8 * length s) + value s < k)
+    (sym (pow-add 2 (8 * length s) 8) ∙ ap (λ k. 2 ^ k) (omega arith))
     (mul-add-lt b (2 ^ (8 * length s)) (value s) 256 h.0 (value-lt s h.1))
 
 bits-value : (s : List ℕ) → AreBytes s → bits (8 * length s) (value s) ≡ polynomial_of s
@@ -55,7 +59,8 @@ bits-value (b ∷ s) h =
     ap (λ k. bits k (b * 2 ^ (8 * length s) + value s)) (omega arith)
     ∙ bits-cat 8 (8 * length s) b (value s) (value-lt s h.1) ∙ ap (λ t. bits 8 b ++ t) (bits-value s h.1)
 
-pub bits-from_be_bytes : (s : List ℕ) → length s ≡ 16 → ((i : ℕ) → get_or s i 0 < 256) → bits 128 (from_be_bytes w128 s) ≡ polynomial_of s
+pub bits-from_be_bytes : (s : List ℕ) → length s ≡ 16 → ((i : ℕ) → get_or s i 0 < 256)
+    → bits 128 (from_be_bytes w128 s) ≡ polynomial_of s
 unfolding value bytes_from
 bits-from_be_bytes s e h =
     let same : bytes_from 16 0 s ≡ s = bytes_from-is 16 0 s (sym e) in
@@ -84,14 +89,17 @@ bytes_of-bits (suc k) n =
     let q = n / 2 ^ (8 * k) in
     let length_is : 8 * suc k ≡ 8 + 8 * k = omega arith in
     let parted = ap (λ j. bits j n) length_is ∙ bits-append 8 (8 * k) n in
-    λ i. (ap (λ p. number_of (take 8 p)) parted ∙ ap number_of (take_bits q (bits (8 * k) n)) ∙ number_of-bits 8 q ∙ sym (byte_at-is k n)) i
+    λ i. (ap (λ p. number_of (take 8 p)) parted ∙ ap number_of (take_bits q (bits (8 * k) n)) ∙ number_of-bits 8 q
+    ∙ sym (byte_at-is k n)) i
     ∷ (ap (λ p. bytes_of k (drop 8 p)) parted ∙ ap (bytes_of k) (drop_bits q (bits (8 * k) n)) ∙ bytes_of-bits k n) i
 
 byte_at-xor : (k a b : ℕ) → byte_at k (bit_xor a b) ≡ bit_xor (byte_at k a) (byte_at k b)
 byte_at-xor k a b =
-    byte_at-is k (bit_xor a b) ∙ ap (λ x. x % 256) (xor_shr a b (8 * k)) ∙ xor_mod (a / 2 ^ (8 * k)) (b / 2 ^ (8 * k)) 8
+    byte_at-is k (bit_xor a b) ∙ ap (λ x. x % 256) (xor_shr a b (8 * k))
+    ∙ xor_mod (a / 2 ^ (8 * k)) (b / 2 ^ (8 * k)) 8
     ∙ (λ i. bit_xor (sym (byte_at-is k a) i) (sym (byte_at-is k b) i))
 
-pub bytes_high_first-xor : (k a b : ℕ) → bytes_high_first k (bit_xor a b) ≡ xor_bytes (bytes_high_first k a) (bytes_high_first k b)
+pub bytes_high_first-xor : (k a b : ℕ)
+    → bytes_high_first k (bit_xor a b) ≡ xor_bytes (bytes_high_first k a) (bytes_high_first k b)
 bytes_high_first-xor zero a b = refl
 bytes_high_first-xor (suc k) a b = λ i. byte_at-xor k a b i ∷ bytes_high_first-xor k a b i

@@ -1,5 +1,6 @@
 -- Sealed texts and their tags, from the parts that the code computes.
-use Rattle.std.proofs.Common.{◌≡◌, ℕ, ◌+◌, ◌<◌, arith, Bool, true, false, not, List, [], ◌∷◌, ◌++◌, length, get_or, map, bit_xor, Some, None, ◌≢◌, refl, sym, ◌∙◌, ap, subst}
+use Rattle.std.proofs.Common.{◌≡◌, ℕ, ◌+◌, ◌<◌, arith, Bool, true, false, not, List, [], ◌∷◌, ◌++◌, length, get_or}
+use Rattle.std.proofs.Common.{map, bit_xor, Some, None, ◌≢◌, refl, sym, ◌∙◌, ap, subst}
 use Rattle.std.proofs.lemmas.Bool.{false≢true}
 use Rattle.std.proofs.lemmas.Slice.Eq.{bytes_eq-Decides}
 use Rattle.std.proofs.lemmas.List.{map-append}
@@ -8,7 +9,8 @@ use Rattle.std.specs.Str.{bytes_eq}
 use Rattle.seal_model.specs.Polynomial.{bits}
 use Rattle.seal_model.specs.Bytes.{xor_bytes}
 use Rattle.seal_model.specs.Aes.{encrypt}
-use Rattle.seal_model.specs.Gcm.{polynomial_of, ghash, blocks_of, lengths_block, hash_key, counter_block, encrypted, tag, tag_of, ciphertext_of, seal, unseal}
+use Rattle.seal_model.specs.Gcm.{polynomial_of, ghash, blocks_of, lengths_block, hash_key, counter_block, encrypted}
+use Rattle.seal_model.specs.Gcm.{tag, tag_of, ciphertext_of, seal, unseal}
 use Rattle.seal_model.proofs.Sealing.{length-encrypt, unseal_answers}
 use Rattle.aes_gcm.specs.Hash.{Adds}
 use Rattle.aes_gcm.proofs.Numbers.{bytes_high_first-xor}
@@ -44,9 +46,10 @@ tag_is key nonce aad text lengths zero mask h first second third number ez eh f 
     bytes_high_first-xor 16 third number
     ∙ (λ i. xor_bytes
     (hash_bytes h third (hash_key key) (blocks_of aad ++ blocks_of text ++ lengths ∷ []) key_is
-    (adds_all (bits 128 h) (bits 128 first) (bits 128 second) (bits 128 third) (bits 128 0) (blocks_of aad) (blocks_of text) lengths f g k) i)
-    ((bytes_back number mask wide fm en ∙ em) i))
-    ∙ ap (λ l. xor_bytes (ghash (hash_key key) (blocks_of aad ++ blocks_of text ++ l ∷ [])) (encrypt key (counter_block nonce 1))) el
+    (adds_all (bits 128 h) (bits 128 first) (bits 128 second) (bits 128 third) (bits 128 0) (blocks_of aad)
+    (blocks_of text) lengths f g k) i) ((bytes_back number mask wide fm en ∙ em) i))
+    ∙ ap (λ l. xor_bytes (ghash (hash_key key) (blocks_of aad ++ blocks_of text ++ l ∷ []))
+    (encrypt key (counter_block nonce 1))) el
 
 pub sealed_is : (key cipher nonce aad text ciphertext last : List ℕ) → cipher ≡ key
     → ciphertext ≡ encrypted cipher nonce text → last ≡ tag cipher nonce aad ciphertext
@@ -79,7 +82,9 @@ module _ (key cipher nonce aad sealed ciphertext last computed : List ℕ) (key_
       (unseal_answers key nonce aad sealed).other_tag (λ same. differ last computed e (parts.1 ∙ same ∙ sym right))
 
   -- where they are one
-  pub opens : not (bytes_eq last computed) ≡ false → unseal key nonce aad sealed ≡ Some (encrypted cipher nonce ciphertext)
+  pub opens : not (bytes_eq last computed) ≡ false
+      → unseal key nonce aad sealed ≡ Some (encrypted cipher nonce ciphertext)
   opens e =
-      (unseal_answers key nonce aad sealed).same_tag (omega (arith, parts.2)) (sym parts.1 ∙ agree last computed e ∙ right)
+      (unseal_answers key nonce aad sealed).same_tag (omega (arith, parts.2))
+      (sym parts.1 ∙ agree last computed e ∙ right)
       ∙ sym (λ i. Some (encrypted (key_is i) nonce (parts.0 i)))

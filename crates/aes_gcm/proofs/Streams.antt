@@ -1,9 +1,11 @@
 -- The key stream block by block.
-use Rattle.std.proofs.Common.{◌≡◌, ℕ, zero, suc, ◌+◌, ◌-◌, ◌*◌, ◌<◌, ◌≤◌, min, List, [], ◌∷◌, ◌++◌, length, get_or, set, take, drop, bit_xor}
-use Rattle.std.proofs.Common.{refl, sym, ◌∙◌, ap, inl, inr, arith, add-one, append_assoc, length-append, length-take, length-drop}
+use Rattle.std.proofs.Common.{◌≡◌, ℕ, zero, suc, ◌+◌, ◌-◌, ◌*◌, ◌<◌, ◌≤◌, min, List, [], ◌∷◌, ◌++◌, length, get_or}
+use Rattle.std.proofs.Common.{set, take, drop, bit_xor, refl, sym, ◌∙◌, ap, inl, inr, arith, add-one, append_assoc}
+use Rattle.std.proofs.Common.{length-append, length-take, length-drop}
 use Rattle.std.proofs.Math.Seq.{take-add, take-append_seam, drop-append_seam, drop-length}
 use Rattle.std.proofs.lemmas.Bool.{cases_lt}
-use Rattle.std.proofs.lemmas.List.{take-append-drop, length-take-le, take_all, drop_all, drop-drop, append-nil, set-append_right, get_or-append_right}
+use Rattle.std.proofs.lemmas.List.{take-append-drop, length-take-le, take_all, drop_all}
+use Rattle.std.proofs.lemmas.List.{drop-drop, append-nil, set-append_right, get_or-append_right}
 use Rattle.seal_model.specs.Bytes.{xor_bytes}
 use Rattle.seal_model.specs.Aes.{encrypt}
 use Rattle.seal_model.specs.Gcm.{counter_block, key_stream, encrypted, block_count}
@@ -36,7 +38,8 @@ length-sum key nonce text i h =
 -- one block more
 pub stream-step : (key nonce text : List ℕ) (i : ℕ) → 16 * i ≤ length text
     → xor_bytes (take (16 * (i + 1)) text) (key_stream key nonce (i + 1))
-    ≡ xor_bytes (take (16 * i) text) (key_stream key nonce i) ++ xor_bytes (drop (16 * i) text) (encrypt key (counter_block nonce (i + 2)))
+    ≡ xor_bytes (take (16 * i) text) (key_stream key nonce i)
+    ++ xor_bytes (drop (16 * i) text) (encrypt key (counter_block nonce (i + 2)))
 unfolding key_stream
 stream-step key nonce text i h =
     let e = encrypt key (counter_block nonce (i + 2)) in let rest = drop (16 * i) text in
@@ -45,7 +48,8 @@ stream-step key nonce text i h =
     ∙ xor-append (take (16 * i) text) (key_stream key nonce i) (take 16 rest) e
     (length-take-le (16 * i) text h ∙ sym (length-key_stream key nonce i))
     ∙ ap (λ u. xor_bytes (take (16 * i) text) (key_stream key nonce i) ++ u)
-    (ap (xor_bytes (take 16 rest)) (sym short) ∙ xor-all rest e 16 (omega (arith, length-encrypt key (counter_block nonce (i + 2)))))
+    (ap (xor_bytes (take 16 rest)) (sym short)
+    ∙ xor-all rest e 16 (omega (arith, length-encrypt key (counter_block nonce (i + 2)))))
   where
     longer : 16 * (i + 1) ≡ 16 * i + 16
     longer = omega arith

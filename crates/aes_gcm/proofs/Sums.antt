@@ -1,9 +1,12 @@
 -- The sum of GHASH block by block.
-use Rattle.std.proofs.Common.{◌≡◌, ℕ, zero, suc, ◌+◌, ◌*◌, ◌<◌, Bool, List, [], ◌∷◌, ◌++◌, length, get_or, take, drop, map, bit_xor, refl, sym, ◌∙◌, ap, arith, add-one, append_assoc, ◌-◌, slice_index_or, replicate}
+use Rattle.std.proofs.Common.{◌≡◌, ℕ, zero, suc, ◌+◌, ◌*◌, ◌<◌, Bool, List, [], ◌∷◌, ◌++◌}
+use Rattle.std.proofs.Common.{length, get_or, take, drop, map, bit_xor, refl, sym, ◌∙◌, ap}
+use Rattle.std.proofs.Common.{arith, add-one, append_assoc, ◌-◌, slice_index_or, replicate}
 use Rattle.std.proofs.lemmas.List.{map-append, drop-drop, append-nil}
 use Rattle.std.specs.Int.{w128, div_ceil, to_be_bytes, from_be_bytes}
 use Rattle.seal_model.specs.Polynomial.{add, bits}
-use Rattle.seal_model.specs.Gcm.{field_product, power, polynomial_of, bytes_of, power_sum, ghash, padded, first_blocks, block_count}
+use Rattle.seal_model.specs.Gcm.{field_product, power, polynomial_of, bytes_of}
+use Rattle.seal_model.specs.Gcm.{power_sum, ghash, padded, first_blocks, block_count}
 use Rattle.seal_model.proofs.Lists.{are_bytes}
 use Rattle.seal_model.proofs.Bits.{bits-xor, length-bits}
 use Rattle.seal_model.proofs.Algebra.{add_assoc}
@@ -58,7 +61,8 @@ first_blocks-suc zero s = refl
 first_blocks-suc (suc n) s =
     ap (λ t. padded (take 16 s) ∷ t)
     (first_blocks-suc n (drop 16 s)
-    ∙ ap (λ r. first_blocks n (drop 16 s) ++ padded (take 16 r) ∷ []) (drop-drop (16 * n) 16 s ∙ ap (λ k. drop k s) (omega arith)))
+    ∙ ap (λ r. first_blocks n (drop 16 s) ++ padded (take 16 r) ∷ [])
+    (drop-drop (16 * n) 16 s ∙ ap (λ k. drop k s) (omega arith)))
 
 first_blocks-more : (n k : ℕ) (s : List ℕ) → first_blocks (k + n) s ≡ first_blocks k s ++ blocks_from n k s
 first_blocks-more zero k s =
@@ -87,13 +91,15 @@ div_ceil-16 n = omega arith
 -- ---- results
 -- the bytes of a sum that starts with no block
 pub hash_bytes : (h total : ℕ) (key : List ℕ) (blocks : List (List ℕ)) → bits 128 h ≡ polynomial_of key
-    → Adds (bits 128 h) (bits 128 0) (bits 128 total) (map polynomial_of blocks) → to_be_bytes w128 total ≡ ghash key blocks
+    → Adds (bits 128 h) (bits 128 0) (bits 128 total) (map polynomial_of blocks)
+    → to_be_bytes w128 total ≡ ghash key blocks
 unfolding ghash power_sum bits
 hash_bytes h total key blocks is adds =
     sym (bytes_of-bits 16 total)
     ∙ ap (bytes_of 16) (adds [] refl ∙ ap (λ p. power_sum p (map polynomial_of blocks)) is)
 
-pub bytes_back : (number : ℕ) (s : List ℕ) → length s ≡ 16 → ((i : ℕ) → get_or s i 0 < 256) → number ≡ from_be_bytes w128 s → to_be_bytes w128 number ≡ s
+pub bytes_back : (number : ℕ) (s : List ℕ) → length s ≡ 16 → ((i : ℕ) → get_or s i 0 < 256)
+    → number ≡ from_be_bytes w128 s → to_be_bytes w128 number ≡ s
 bytes_back number s long fits is =
     sym (bytes_of-bits 16 number) ∙ ap (bytes_of 16) (ap (bits 128) is ∙ bits-from_be_bytes s long fits)
     ∙ ap (λ k. bytes_of k (polynomial_of s)) (sym long) ∙ bytes_of-polynomial_of s (are_bytes s fits)

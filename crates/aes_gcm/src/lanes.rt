@@ -1,6 +1,7 @@
 // Eight elements of the field of blocks at a time: a lane for each, in two halves of 64 bits.
 
-ghost use Rattle.std.specs.Prelude.{◌≡◌, ℕ, ◌*◌, ◌/◌, ◌%◌, ◌^◌, ◌<◌, ◌++◌, List, Bool, slice_index, bit_and, bit_or, bit_xor, ◌==◌};
+ghost use Rattle.std.specs.Prelude.{◌≡◌, ℕ, ◌*◌, ◌/◌, ◌%◌, ◌^◌, ◌<◌, ◌++◌, List, Bool};
+ghost use Rattle.std.specs.Prelude.{slice_index, bit_and, bit_or, bit_xor, ◌==◌};
 ghost use Rattle.seal_model.specs.Lanes.{HasLanes, where_set};
 ghost use Rattle.seal_model.specs.Polynomial.{add, bits, scaled, times_x};
 ghost use Rattle.seal_model.specs.Gcm.{block_modulus, field_product};

@@ -48,8 +48,8 @@ pub fn seal(
     Ok(Bytes::from_vec(sealed))
 }
 
-/// The text of a sealed text (section 7.2), in memory for it alone. `None` where the sealed text has fewer than 16 bytes,
-/// or another tag than its ciphertext's.
+/// The text of a sealed text (section 7.2), in memory for it alone. `None` where the sealed text has fewer than 16
+/// bytes, or another tag than its ciphertext's.
 pub fn open(
     alloc: Global,
     key: &[u8; 32],

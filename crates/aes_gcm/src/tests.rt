@@ -1,5 +1,5 @@
-// Sealed texts from outside: of a key and nonce of zeros (the specification of GCM), and of another program. The texts and
-// the additional data have lengths about each edge of a block.
+// Sealed texts from outside: of a key and nonce of zeros (the specification of GCM), and of another program. The
+// texts and the additional data have lengths about each edge of a block.
 
 ghost use Rattle.std.specs.Prelude.{◌≤◌, IfOk, vec_len};
 
@@ -91,15 +91,21 @@ const CASES: [Case; 16] = [
         key: "c88d03b7a3cbe9f03439515c2e2ebea7326d4d4b5a9ddeab289222d983e7854c",
         nonce: "ea39e7e5d3715f3c955705e8",
         aad: "b37b2ac672a30b2ca746f0e62a63b047a8335a659192183660ab300c9ab654b5a8826682ad5d7300",
-        text: "15d5b302cb68ed8a227ae557c31f1ab048520430cf507b7cb66d33db53b638bed8597b51c1ce5888e7f6e3e28356175fb541878f57ef8354546a34b3450e948e",
-        sealed: "fd33df44b91155827ff4e6ff1eadff41572eb547dbd5838e19e6bbd029a6767c50e45e1d97d1a9d28c5a4289ba6a42742ee417ee8562299c7758da906a16a90e663a9fba8bc2e16509c5f9a637e09e69",
+        text: "15d5b302cb68ed8a227ae557c31f1ab048520430cf507b7cb66d33db53b638be\
+            d8597b51c1ce5888e7f6e3e28356175fb541878f57ef8354546a34b3450e948e",
+        sealed: "fd33df44b91155827ff4e6ff1eadff41572eb547dbd5838e19e6bbd029a6767c50e45e1d97d1a9d28c5a4289ba6a4274\
+            2ee417ee8562299c7758da906a16a90e663a9fba8bc2e16509c5f9a637e09e69",
     },
     Case {
         key: "e537081c72f90523d67030faaea8dfd6ca9c45c39481f22ce30c62ba0d4e3cc9",
         nonce: "50c7324a1898181e55eec71d",
         aad: "dd8ebc58b46abd802a5cedff132619bd",
-        text: "35b1d7827832d5ba9b1d79666d5b6d0dd8ed17772fce9c2a6af28c7028ad63eff28d0c852877e2663cc23714e7cdd855d178798fe75198b63e5e10f9746e74a677276b13dd8a28b67be260bbbb2718d0c4b7dc52dff4fa967bb264704f57eec41e5e951f",
-        sealed: "c6040e9521695deb4b48dd5b7862674060bb22aca8ae3d0895a0243f2f949563a69e395ba380e98cbf96537eedc2d93ed1b261549922bf815d1290b667e43c6401c08a93a25f2905de7900797d85fe7d454baceed093a3b09b41bf553e1c2674c6e0bd9474166844056914b3f714e17048709673",
+        text: "35b1d7827832d5ba9b1d79666d5b6d0dd8ed17772fce9c2a6af28c7028ad63eff28d0c852877e2663cc23714e7cdd855\
+            d178798fe75198b63e5e10f9746e74a677276b13dd8a28b67be260bbbb2718d0c4b7dc52dff4fa967bb264704f57eec4\
+            1e5e951f",
+        sealed: "c6040e9521695deb4b48dd5b7862674060bb22aca8ae3d0895a0243f2f949563a69e395ba380e98cbf96537eedc2d93e\
+            d1b261549922bf815d1290b667e43c6401c08a93a25f2905de7900797d85fe7d454baceed093a3b09b41bf553e1c2674\
+            c6e0bd9474166844056914b3f714e17048709673",
     },
     Case {
         key: "15a3e1034355f9cb1a08448e2cb258f59a8bdffa377bfae6a8437690c8f6279a",
@@ -159,8 +165,8 @@ fn decoded(rt: &impl Abort, alloc: Global, text: &str) -> Result<Vec<u8>, Fail>
     Ok(bytes)
 }
 
-// What is altered of a sealed text: the bits of the last byte of the nonce, of the additional data and of the tag, and how
-// many bytes are cut off.
+// What is altered of a sealed text: the bits of the last byte of the nonce, of the additional data and of the tag,
+// and how many bytes are cut off.
 const ALTERED: [(&str, u8, u8, u8, usize); 6] = [
     ("a bit of the nonce", 1, 0, 0, 0),
     ("a byte of the additional data", 0, 0x80, 0, 0),

@@ -8,7 +8,7 @@ use Rattle.std.specs.FinMap as map
 use Rattle.std.specs.FinMap.{IsAntisymmetric}
 use Rattle.std.proofs.lemmas.Bool.{cases_lt}
 use Rattle.std.proofs.lemmas.List.{length-map}
-use Rattle.std.proofs.lemmas.Option.{slice_get_within, slice_get-get_or}
+use Rattle.std.proofs.lemmas.Option.{none-some, same_Some, slice_get_within, slice_get-get_or}
 use Rattle.std.proofs.Math.ListN.{get_or-append}
 use Rattle.std.proofs.Math.Seq.{get_or-append_seam}
 use Rattle.std.proofs.lemmas.List.Elements.{Contains-push, Contains-push_cases}
@@ -20,13 +20,7 @@ use Rattle.docket.specs.Accounts.{AllWait, Accounted}
 use Rattle.docket.specs.Docket.{DocketState, empty_docket, queue_of}
 use Rattle.docket.specs.Docket.{with_queue, with_command, with_first_command, after_begin}
 
-some_same : {X : Type 0} (a b : X) → Some a ≡ Some b → a ≡ b
-some_same a b e = cc
-
-no_some : {X : Type 0} (x : X) → None ≡ Some x → ⊥
-no_some x e = cc
-
-not_nil : (n : ℕ) (ns : List ℕ) → (n ∷ ns) ≢ []
+pub not_nil : (n : ℕ) (ns : List ℕ) → (n ∷ ns) ≢ []
 not_nil n ns e = cc
 
 pub nothing_in : (number : ℕ) → ¬ (Contains [] number)
@@ -210,7 +204,7 @@ module _ {A C R : Type 0} {cmp : A → A → Ordering} (total : IsTotalOrder cmp
   accounted-empty = record {
     within = λ number there. absurd (nothing_in number there);
     queues = λ actor. subst (λ found. IfSome found (AllWait actor_of [] [] actor)) (sym (map.get-empty cmp actor)) tt;
-    some = λ actor some. no_some [] (sym (map.get-empty cmp actor) ∙ some);
+    some = λ actor some. none-some [] (sym (map.get-empty cmp actor) ∙ some);
     kept = λ number command at. absurd (nowhere number command at);
     total = let none = sum-empty cmp (length {A = ℕ}) in omega (arith, none);
   }
@@ -280,7 +274,7 @@ module _ {A C R : Type 0} {cmp : A → A → Ordering} (total : IsTotalOrder cmp
                 let within = slice_get_within (docket.commands ++ command ∷ []) n c at in
                 let is_last : n ≡ length docket.commands =
                 omega (arith, late, within, length-append docket.commands (command ∷ [])) in
-                let is_own : c ≡ command = some_same c command
+                let is_own : c ≡ command = same_Some c command
                 (sym at ∙ ap (slice_get (docket.commands ++ command ∷ [])) is_last
                 ∙ get-last docket.commands command) in
                 inr (subst (λ a. IsSomeAnd (map.get waiting a) (λ ns. Contains ns n)) (sym (ap actor_of is_own))
@@ -306,7 +300,7 @@ module _ {A C R : Type 0} {cmp : A → A → Ordering} (total : IsTotalOrder cmp
             (stand.queues other)));
         some = at_actors total exact actor (λ a. map.get waiting a ≢ Some [])
             (λ some. nothing_in (length docket.commands) (subst (λ ns. Contains ns (length docket.commands))
-            (some_same new [] (sym (get-insert_same total exact docket.waiting actor new) ∙ some)) joins.there))
+            (same_Some new [] (sym (get-insert_same total exact docket.waiting actor new) ∙ some)) joins.there))
             (λ other differ some. stand.some other
             (sym (get-insert_other total exact docket.waiting actor new other differ) ∙ some));
         kept = joined-kept;
@@ -389,9 +383,9 @@ module _ {A C R : Type 0} {cmp : A → A → Ordering} (total : IsTotalOrder cmp
           (sym (get-insert_same total exact docket.waiting actor (m ∷ ns))) there
 
       left_some : (ns : List ℕ) → map.get (with_queue docket.waiting actor ns) actor ≢ Some []
-      left_some [] some = no_some [] (sym (get-remove_same total exact docket.waiting actor) ∙ some)
+      left_some [] some = none-some [] (sym (get-remove_same total exact docket.waiting actor) ∙ some)
       left_some (n ∷ ns) some = not_nil n ns
-          (some_same (n ∷ ns) [] (sym (get-insert_same total exact docket.waiting actor (n ∷ ns)) ∙ some))
+          (same_Some (n ∷ ns) [] (sym (get-insert_same total exact docket.waiting actor (n ∷ ns)) ∙ some))
 
       begun-kept : (n : ℕ) (c : C) → slice_get docket.commands n ≡ Some c
           → Contains (taken ++ number ∷ []) n ⊎ IsSomeAnd (map.get left (actor_of c)) (λ queue. Contains queue n)
@@ -454,4 +448,10 @@ module _ {A C R : Type 0} {cmp : A → A → Ordering} (actor_of : C → A) wher
       subst (λ ws. Accounted actor_of taken (record docket { commands = docket'.commands; waiting = ws }))
       (sym waiting)
       (subst (λ cs. Accounted actor_of taken (record docket { commands = cs })) (sym commands) stand) in
-      record { within = moved.within; queues = moved.queues; some = moved.some; kept = moved.kept; total = moved.total }
+      record {
+        within = moved.within;
+        queues = moved.queues;
+        some = moved.some;
+        kept = moved.kept;
+        total = moved.total;
+      }

@@ -1,6 +1,7 @@
 -- Queues that are taken out, changed and put back, and that no queue is empty.
-use Rattle.std.proofs.Common.{◌≡◌, ◌≢◌, inl, inr, ℕ, ◌+◌, ◌<◌, List, [], ◌∷◌, ◌++◌, refl, sym, ap, ◌∙◌, subst, arith}
-use Rattle.std.specs.Prelude.{Option, Some, None, IsSome, IfSome, IsSomeAnd, Contains, is_some, unwrap_or}
+use Rattle.std.proofs.Common.{◌≡◌, ◌≢◌, inl, inr, ℕ, ◌+◌, ◌<◌, List, [], ◌∷◌, ◌++◌}
+use Rattle.std.proofs.Common.{length, refl, sym, ap, ◌∙◌, subst, arith, length-append}
+use Rattle.std.specs.Prelude.{Option, Some, None, IfSome, IsSomeAnd, Contains, unwrap_or}
 use Rattle.std.specs.declared.cmp.Ordering.{Ordering}
 use Rattle.std.specs.Cmp.{IsTotalOrder}
 use Rattle.std.specs.FinMap as map
@@ -10,7 +11,13 @@ use Rattle.tree_model.proofs.Maps.{get-insert_same, get-insert_other, get-remove
 use Rattle.tree_model.proofs.Maps.{remove-insert, insert_present}
 use Rattle.sorted_map.proofs.Maps.{insert-insert}
 use Rattle.docket.specs.Docket.{IsQueue, AllQueues, IsFirst, DropsFirst, queue_of, with_queue}
-use Rattle.docket.proofs.Accounts.{nothing_in, contains-here, contains-cons, at_actors}
+use Rattle.docket.proofs.Accounts.{not_nil, nothing_in, contains-here, contains-cons, at_actors}
+
+-- a list with one element more, pushed once there was room
+pub one-more : {A : Type 0} (given room pushed : List A) (x : A) → room ≡ given → pushed ≡ room ++ x ∷ []
+    → length pushed ≡ length given + 1
+one-more given room pushed x same items =
+    ap length items ∙ length-append room (x ∷ []) ∙ ap (λ list. length list + 1) same
 
 pub queues-empty : {A : Type 0} (cmp : A → A → Ordering) (given : ℕ) (waiting : map.FinMap cmp (List ℕ))
     → waiting ≡ map.empty → AllQueues given waiting
@@ -41,16 +48,7 @@ push_not_nil : (ns : List ℕ) (n : ℕ) → (ns ++ n ∷ []) ≢ []
 push_not_nil [] n e = cc
 push_not_nil (m ∷ ns) n e = cc
 
-front_not_nil : (n : ℕ) (ns : List ℕ) → (n ∷ ns) ≢ []
-front_not_nil n ns e = cc
-
 module _ {A : Type 0} {cmp : A → A → Ordering} (total : IsTotalOrder cmp) (exact : IsAntisymmetric cmp) where
-  -- a queue is there once one was put
-  pub there-aside : (before aside : map.FinMap cmp (List ℕ)) (actor : A) (blank : List ℕ)
-      → aside ≡ map.insert before actor blank → IsSome (map.get aside actor)
-  there-aside before aside actor blank put_aside = ap (λ m. is_some (map.get m actor)) put_aside
-      ∙ ap is_some (get-insert_same total exact before actor blank)
-
   module _ (before aside after : map.FinMap cmp (List ℕ)) (actor : A) (blank queue : List ℕ)
       (put_aside : aside ≡ map.insert before actor blank) where
     -- the queue was put back, changed
@@ -103,7 +101,7 @@ module _ {A : Type 0} {cmp : A → A → Ordering} (total : IsTotalOrder cmp) (e
           let queue = subst (λ f. IfSome f (IsQueue given)) was (stand actor) in
           at_actors total exact actor (λ a. IfSome (map.get (map.insert before actor (n ∷ ns)) a) (IsQueue given))
           (subst (λ f. IfSome f (IsQueue given)) (sym (get-insert_same total exact before actor (n ∷ ns))) (record {
-            some = front_not_nil n ns;
+            some = not_nil n ns;
             within = λ k there. queue.within k (Contains-append_right (number ∷ []) (n ∷ ns) k there);
           }))
           (λ other differ. subst (λ f. IfSome f (IsQueue given))
@@ -132,7 +130,7 @@ module _ {A : Type 0} {cmp : A → A → Ordering} (total : IsTotalOrder cmp) (e
 
     pub queues-first : after ≡ map.insert before actor (given ∷ queue_of before actor) → AllQueues (given + 1) after
     queues-first = queues-put (given ∷ queue_of before actor) (record {
-      some = front_not_nil given (queue_of before actor);
+      some = not_nil given (queue_of before actor);
       within = λ k there. elim (contains-cons given (queue_of before actor) k there) [
         | inl same ↦ omega (arith, same)
         | inr old ↦ let below = within_found given k (map.get before actor) (stand actor) old in omega (arith, below)

@@ -1,16 +1,17 @@
 -- Texts that a loop adds piece by piece, and the entries of a finite map that a loop over its keys meets.
-use Rattle.std.proofs.Common.{◌≡◌, ℕ, zero, suc, ◌+◌, ◌<◌, Bool, true, false, cond, T, ◌&&◌, ◌-◌, List, []}
+use Rattle.std.proofs.Common.{◌≡◌, ℕ, zero, suc, ◌+◌, ◌<◌, cond, T, ◌-◌, List, []}
 use Rattle.std.proofs.Common.{◌∷◌, ◌++◌, length, get_or, take, drop, replicate, map, refl, sym, ap, subst, ◌∙◌}
 use Rattle.std.proofs.Common.{arith}
 use Rattle.std.specs.Prelude.{Some, None}
 use Rattle.std.specs.List.{flat_map}
 use Rattle.std.specs.declared.cmp.Ordering.{Ordering}
-use Rattle.std.specs.declared.cmp.Ordering.TheVariants.{Less, Equal, Greater}
+use Rattle.std.specs.declared.cmp.Ordering.TheVariants.{Less}
 use Rattle.std.specs.Ordering.{is_lt, is_eq, ordering_reverse}
 use Rattle.std.specs.Cmp.{IsTotalOrder, eq_by_cmp_equiv}
 use Rattle.std.specs.FinMap as finite
 use Rattle.std.specs.FinMap.{find, is_sorted}
 use Rattle.std.specs.FinMap.Entries.{below_all}
+use Rattle.tree_model.proofs.Logic.{T_first, T_second, T_less}
 use Rattle.script_text.specs.declared.shown.Shown.{Shown}
 use Rattle.script_text.specs.Words.{spaced}
 use Rattle.script_text.specs.Shown.{shown_words, all_words}
@@ -62,26 +63,13 @@ padded digits old zeros new filled added =
     (omega (arith, length-replicate {A = ℕ} (10 - length digits) 48))))
     ∙ append_assoc old (replicate (10 - length digits) 48) digits
 
-is_less : (o : Ordering) → T (is_lt o) → o ≡ Less
-is_less Less h = refl
-is_less Equal h = absurd h
-is_less Greater h = absurd h
-
-left_holds : (a b : Bool) → T (a && b) → T a
-left_holds true b h = tt
-left_holds false b h = h
-
-right_holds : (a b : Bool) → T (a && b) → T b
-right_holds true b h = h
-right_holds false b h = absurd h
-
 module _ {K X : Type 0} {R : K → K → Ordering} (total : IsTotalOrder R) where
   above : (k : K) (es : List (K × X)) (i : ℕ) (d : K × X) → T (below_all R k es) → i < length es
       → R k (get_or es i d).0 ≡ Less
   above k [] i d below within = absurd (omega arith)
-  above k (e ∷ es) zero d below within = is_less (R k e.0) (left_holds (is_lt (R k e.0)) (below_all R k es) below)
+  above k (e ∷ es) zero d below within = T_less (R k e.0) (T_first (is_lt (R k e.0)) (below_all R k es) below)
   above k (e ∷ es) (suc i) d below within =
-      above k es i d (right_holds (is_lt (R k e.0)) (below_all R k es) below) (omega arith)
+      above k es i d (T_second (is_lt (R k e.0)) (below_all R k es) below) (omega arith)
 
   -- in order, each key finds its own value
   pub find-at : (es : List (K × X)) (i : ℕ) (d : K × X) → T (is_sorted R es) → i < length es
@@ -91,9 +79,9 @@ module _ {K X : Type 0} {R : K → K → Ordering} (total : IsTotalOrder R) wher
       ap (λ t. cond t (Some e.1) (find R e.0 es)) ((eq_by_cmp_equiv total).refl e.0)
   find-at (e ∷ es) (suc i) d sorted within =
       let q = (get_or es i d).0 in
-      let less = above e.0 es i d (left_holds (below_all R e.0 es) (is_sorted R es) sorted) (omega arith) in
+      let less = above e.0 es i d (T_first (below_all R e.0 es) (is_sorted R es) sorted) (omega arith) in
       ap (λ o. cond (is_eq o) (Some e.1) (find R q es)) (total.antisymm q e.0 ∙ ap ordering_reverse less)
-      ∙ find-at es i d (right_holds (below_all R e.0 es) (is_sorted R es) sorted) (omega arith)
+      ∙ find-at es i d (T_second (below_all R e.0 es) (is_sorted R es) sorted) (omega arith)
 
   -- the i-th key of a finite map and what the map has there are its i-th entry
   pub entry-at : (m : finite.FinMap R X) (keys : List K) (i : ℕ) (k : K) (x : X) → keys ≡ finite.keys m

@@ -10,22 +10,32 @@ use tree_model::{Bytes, Cut, Dir, FileName, NoMemory, Place, Slot};
 const CREATED_JOURNAL: &[u8] =
     b"journal 6\nbegan 0 10 create 10\nsynced\nsynced\nchanged 0 create 10 0 0\nsynced\nreplied 0 ok\n";
 
-const CREATED_TREE: &[u8] =
-    b"tree 2\ndir de/10\nfile version 1 30\nfile encrypted_key 64 000000000a0000000000000000000000000000000000000000000000000000000000000000000000000000000000000000000000000000000000000000000000\ndir ce/10/current\nfile version 1 30\nfile encrypted_key 64 010000000a0000000000000000000000000000000000000000000000000000000000000000000000000000000000000000000000000000000000000000000000\n";
+const CREATED_TREE: &[u8] = b"tree 2\ndir de/10\nfile version 1 30\n\
+     file encrypted_key 64 000000000a0000000000000000000000000000000000000000000000000000000000000000000000\
+     000000000000000000000000000000000000000000000000\ndir ce/10/current\nfile version 1 30\n\
+     file encrypted_key 64 010000000a0000000000000000000000000000000000000000000000000000000000000000000000\
+     000000000000000000000000000000000000000000000000\n";
 
 const EVERY_ENTRY: &[u8] =
-    b"journal 12\nbegan 7 3 create 3\nbegan 8 cp create 4\nbegan 9 boot recover\nchanged 7 create 3 2 5\nsynced\nstopped 1\nrestarted 3 2\nreplied 7 ok\nreplied 8 ok 12\nreplied 9 user-exists\nreplied 10 ready\nreplied 18446744073709551615 tree-fault\n";
+    b"journal 12\nbegan 7 3 create 3\nbegan 8 cp create 4\nbegan 9 boot recover\nchanged 7 create 3 2 5\n\
+     synced\nstopped 1\nrestarted 3 2\nreplied 7 ok\nreplied 8 ok 12\nreplied 9 user-exists\n\
+     replied 10 ready\nreplied 18446744073709551615 tree-fault\n";
 
 const EVERY_NAME: &[u8] =
-    b"later 4 checkpoint 3\ndir de/0\nfile version 1 30\nfile encrypted_key 2 00ff\nfile keymaster_key_blob 1 0a\nfile keymaster_key_blob_upgraded 1 0b\nfile keymaster_key_blob_new 1 0c\nfile secdiscardable 1 0d\nfile stretching 0 -\nfile salt 1 0f\ndir ce/7/current\ndir ce/7/cx0000000012\ndir tmp/4294967295\n";
+    b"later 4 checkpoint 3\ndir de/0\nfile version 1 30\nfile encrypted_key 2 00ff\n\
+     file keymaster_key_blob 1 0a\nfile keymaster_key_blob_upgraded 1 0b\n\
+     file keymaster_key_blob_new 1 0c\nfile secdiscardable 1 0d\nfile stretching 0 -\nfile salt 1 0f\n\
+     dir ce/7/current\ndir ce/7/cx0000000012\ndir tmp/4294967295\n";
 
 /// The most fills, the first with the most bytes.
 const FULL_STOP: &[u8] =
-    b"stop 0 0a0a0a0a0a0a0a0a0a0a0a0a0a0a0a0a0a0a0a0a0a0a0a0a0a0a0a0a0a0a0a0a0a0a0a0a0a0a0a0a0a0a0a0a0a0a0a0a0a0a0a0a0a0a0a0a0a0a0a0a0a0a0a0a = = = = = = = = = = = = = = = = = = = = = = = = = = = = = = =\n";
+    b"stop 0 0a0a0a0a0a0a0a0a0a0a0a0a0a0a0a0a0a0a0a0a0a0a0a0a0a0a0a0a0a0a0a0a0a0a0a0a0a0a0a0a0a0a0a0a0a0a0a0\
+     a0a0a0a0a0a0a0a0a0a0a0a0a0a0a0a0a = = = = = = = = = = = = = = = = = = = = = = = = = = = = = = =\n";
 
 /// A fill with 65 bytes.
 const LONG_FILL: &[u8] =
-    b"stop 0 0a0a0a0a0a0a0a0a0a0a0a0a0a0a0a0a0a0a0a0a0a0a0a0a0a0a0a0a0a0a0a0a0a0a0a0a0a0a0a0a0a0a0a0a0a0a0a0a0a0a0a0a0a0a0a0a0a0a0a0a0a0a0a0a0a\n";
+    b"stop 0 0a0a0a0a0a0a0a0a0a0a0a0a0a0a0a0a0a0a0a0a0a0a0a0a0a0a0a0a0a0a0a0a0a0a0a0a0a0a0a0a0a0a0a0a0a0a0a0\
+     a0a0a0a0a0a0a0a0a0a0a0a0a0a0a0a0a0a\n";
 
 /// A stop with 33 fills.
 const MANY_FILLS: &[u8] =

@@ -81,23 +81,27 @@ Same-scaled true u low s = Same-add u low low s (Same-refl low)
 pub Same-times_x : (p low : List Bool) → Same p low → Same (times_x low p) low
 Same-times_x p low s = Same-scaled (last_of false p) (but_last false p) low (Same-but_last false p low s)
 
-but_last-add : (a b : Bool) (p q low : List Bool) → Same p low → Same q low → but_last (plus a b) (add p q) ≡ add (but_last a p) (but_last b q)
+but_last-add : (a b : Bool) (p q low : List Bool) → Same p low → Same q low
+    → but_last (plus a b) (add p q) ≡ add (but_last a p) (but_last b q)
 but_last-add a b _ _ _ none none = refl
 but_last-add a b (c ∷ p) [] (l ∷ low) (more s) t = elim t [ ]
 but_last-add a b (c ∷ p) (d ∷ q) (l ∷ low) (more s) (more t) = ap (λ x. plus a b ∷ x) (but_last-add c d p q low s t)
 
-last_of-add : (a b : Bool) (p q low : List Bool) → Same p low → Same q low → last_of (plus a b) (add p q) ≡ plus (last_of a p) (last_of b q)
+last_of-add : (a b : Bool) (p q low : List Bool) → Same p low → Same q low
+    → last_of (plus a b) (add p q) ≡ plus (last_of a p) (last_of b q)
 last_of-add a b _ _ _ none none = refl
 last_of-add a b (c ∷ p) [] (l ∷ low) (more s) t = elim t [ ]
 last_of-add a b (c ∷ p) (d ∷ q) (l ∷ low) (more s) (more t) = last_of-add c d p q low s t
 
-scaled-plus : (a b : Bool) (u low : List Bool) → Same u low → add u (scaled (plus a b) low) ≡ add u (add (scaled a low) (scaled b low))
+scaled-plus : (a b : Bool) (u low : List Bool) → Same u low
+    → add u (scaled (plus a b) low) ≡ add u (add (scaled a low) (scaled b low))
 scaled-plus false b u low s = refl
 scaled-plus true false u low s = ap (add u) (sym (add_nil low))
 scaled-plus true true u low s =
     add_nil u ∙ sym (add_zeros u low s) ∙ ap (add u) (sym (add_self low low (Same-refl low)))
 
-pub times_x-add : (p q low : List Bool) → Same p low → Same q low → times_x low (add p q) ≡ add (times_x low p) (times_x low q)
+pub times_x-add : (p q low : List Bool) → Same p low → Same q low
+    → times_x low (add p q) ≡ add (times_x low p) (times_x low q)
 times_x-add p q low s t =
     let a = last_of false p in let b = last_of false q in
     let u = but_last false p in let v = but_last false q in
@@ -108,7 +112,8 @@ times_x-add p q low s t =
 pub times_x-zeros : (low : List Bool) → times_x low (zeros low) ≡ zeros low
 times_x-zeros low =
     let z = zeros low in let s = Same-zeros low in
-    ap (times_x low) (sym (zeros_add z low s)) ∙ times_x-add z z low s s ∙ add_self (times_x low z) low (Same-times_x z low s)
+    ap (times_x low) (sym (zeros_add z low s)) ∙ times_x-add z z low s s
+    ∙ add_self (times_x low z) low (Same-times_x z low s)
 
 -- ---- a polynomial of at most n coefficients is its own remainder
 zeros_same : (z low : List Bool) → Same (zeros z) low → zeros low ≡ zeros z
@@ -153,7 +158,8 @@ add_false : (u : List Bool) (l : Bool) (ls : List Bool) → Same u (l ∷ ls) �
 add_false [] l ls s = elim s [ ]
 add_false (a ∷ u) l ls (more s) = refl
 
-Same-add_one : (a : Bool) (u : List Bool) (l : Bool) (ls : List Bool) → Same u (l ∷ ls) → Same (add (a ∷ []) u) (l ∷ ls)
+Same-add_one : (a : Bool) (u : List Bool) (l : Bool) (ls : List Bool) → Same u (l ∷ ls)
+    → Same (add (a ∷ []) u) (l ∷ ls)
 Same-add_one a [] l ls s = elim s [ ]
 Same-add_one a (b ∷ u) l ls (more s) = more s
 
@@ -164,9 +170,12 @@ times low p q = remainder low (product p q)
 module _ (l : Bool) (ls : List Bool) where
   pub Same-remainder : (p : List Bool) → Same (remainder (l ∷ ls) p) (l ∷ ls)
   Same-remainder [] = Same-zeros (l ∷ ls)
-  Same-remainder (a ∷ p) = Same-add_one a (times_x (l ∷ ls) (remainder (l ∷ ls) p)) l ls (Same-times_x (remainder (l ∷ ls) p) (l ∷ ls) (Same-remainder p))
+  Same-remainder (a ∷ p) =
+      Same-add_one a (times_x (l ∷ ls) (remainder (l ∷ ls) p)) l ls
+      (Same-times_x (remainder (l ∷ ls) p) (l ∷ ls) (Same-remainder p))
 
-  pub remainder-add : (p q : List Bool) → remainder (l ∷ ls) (add p q) ≡ add (remainder (l ∷ ls) p) (remainder (l ∷ ls) q)
+  pub remainder-add : (p q : List Bool)
+      → remainder (l ∷ ls) (add p q) ≡ add (remainder (l ∷ ls) p) (remainder (l ∷ ls) q)
   remainder-add [] q = sym (zeros_add (remainder (l ∷ ls) q) (l ∷ ls) (Same-remainder q))
   remainder-add (a ∷ p) [] = sym (add_zeros (remainder (l ∷ ls) (a ∷ p)) (l ∷ ls) (Same-remainder (a ∷ p)))
   remainder-add (a ∷ p) (b ∷ q) =
@@ -176,21 +185,27 @@ module _ (l : Bool) (ls : List Bool) where
       ∙ add_swap (a ∷ []) (b ∷ []) (times_x low u) (times_x low v)
 
   remainder-shifted : (p : List Bool) → remainder (l ∷ ls) (false ∷ p) ≡ times_x (l ∷ ls) (remainder (l ∷ ls) p)
-  remainder-shifted p = add_false (times_x (l ∷ ls) (remainder (l ∷ ls) p)) l ls (Same-times_x (remainder (l ∷ ls) p) (l ∷ ls) (Same-remainder p))
+  remainder-shifted p =
+      add_false (times_x (l ∷ ls) (remainder (l ∷ ls) p)) l ls
+      (Same-times_x (remainder (l ∷ ls) p) (l ∷ ls) (Same-remainder p))
 
-  pub times-cons : (a : Bool) (p q : List Bool) → times (l ∷ ls) (a ∷ p) q ≡ add (scaled a (remainder (l ∷ ls) q)) (times_x (l ∷ ls) (times (l ∷ ls) p q))
+  pub times-cons : (a : Bool) (p q : List Bool)
+      → times (l ∷ ls) (a ∷ p) q ≡ add (scaled a (remainder (l ∷ ls) q)) (times_x (l ∷ ls) (times (l ∷ ls) p q))
   times-cons false p q = remainder-shifted (product p q)
-  times-cons true p q = remainder-add q (false ∷ product p q) ∙ ap (add (remainder (l ∷ ls) q)) (remainder-shifted (product p q))
+  times-cons true p q =
+      remainder-add q (false ∷ product p q) ∙ ap (add (remainder (l ∷ ls) q)) (remainder-shifted (product p q))
 
   zeros-scaled : (a : Bool) → zeros (l ∷ ls) ≡ add (scaled a (zeros (l ∷ ls))) (times_x (l ∷ ls) (zeros (l ∷ ls)))
   zeros-scaled false = sym (times_x-zeros (l ∷ ls))
   zeros-scaled true =
-      sym (add_zeros (zeros (l ∷ ls)) (l ∷ ls) (Same-zeros (l ∷ ls))) ∙ ap (add (zeros (l ∷ ls))) (sym (times_x-zeros (l ∷ ls)))
+      sym (add_zeros (zeros (l ∷ ls)) (l ∷ ls) (Same-zeros (l ∷ ls)))
+      ∙ ap (add (zeros (l ∷ ls))) (sym (times_x-zeros (l ∷ ls)))
 
   pub times-nil : (p : List Bool) → times (l ∷ ls) p [] ≡ zeros (l ∷ ls)
   times-nil [] = refl
   times-nil (a ∷ p) =
-      times-cons a p [] ∙ ap (λ x. add (scaled a (zeros (l ∷ ls))) (times_x (l ∷ ls) x)) (times-nil p) ∙ sym (zeros-scaled a)
+      times-cons a p [] ∙ ap (λ x. add (scaled a (zeros (l ∷ ls))) (times_x (l ∷ ls) x)) (times-nil p)
+      ∙ sym (zeros-scaled a)
 
   crossed_once : (u v r : List Bool) → Same u (l ∷ ls) → Same v (l ∷ ls) → Same r (l ∷ ls)
       → add (add (false ∷ []) (times_x (l ∷ ls) u)) (times_x (l ∷ ls) (times_x (l ∷ ls) r))
@@ -211,11 +226,13 @@ module _ (l : Bool) (ls : List Bool) where
       let low = l ∷ ls in let x = times_x low in
       ap (add (add (true ∷ []) (x u))) (times_x-add v (x r) low t (Same-times_x r low w))
       ∙ add_assoc (true ∷ []) (x u) (add (x v) (x (x r)))
-      ∙ ap (add (true ∷ [])) (sym (add_assoc (x u) (x v) (x (x r))) ∙ ap (λ y. add y (x (x r))) (add_comm (x u) (x v)) ∙ add_assoc (x v) (x u) (x (x r)))
+      ∙ ap (add (true ∷ [])) (sym (add_assoc (x u) (x v) (x (x r))) ∙ ap (λ y. add y (x (x r))) (add_comm (x u) (x v))
+      ∙ add_assoc (x v) (x u) (x (x r)))
       ∙ sym (add_assoc (true ∷ []) (x v) (add (x u) (x (x r))))
       ∙ ap (add (add (true ∷ []) (x v))) (sym (times_x-add u (x r) low s (Same-times_x r low w)))
 
-  times-second : (a : Bool) (p q : List Bool) → times (l ∷ ls) p (a ∷ q) ≡ add (scaled a (remainder (l ∷ ls) p)) (times_x (l ∷ ls) (times (l ∷ ls) p q))
+  times-second : (a : Bool) (p q : List Bool)
+      → times (l ∷ ls) p (a ∷ q) ≡ add (scaled a (remainder (l ∷ ls) p)) (times_x (l ∷ ls) (times (l ∷ ls) p q))
   times-second a [] q = zeros-scaled a
   times-second a (b ∷ p) q =
       let low = l ∷ ls in let u = remainder low q in let v = remainder low p in let r = times low p q in
@@ -228,7 +245,8 @@ module _ (l : Bool) (ls : List Bool) where
   pub times_comm : (p q : List Bool) → times (l ∷ ls) p q ≡ times (l ∷ ls) q p
   times_comm [] q = sym (times-nil q)
   times_comm (a ∷ p) q =
-      times-cons a p q ∙ ap (λ x. add (scaled a (remainder (l ∷ ls) q)) (times_x (l ∷ ls) x)) (times_comm p q) ∙ sym (times-second a q p)
+      times-cons a p q ∙ ap (λ x. add (scaled a (remainder (l ∷ ls) q)) (times_x (l ∷ ls) x)) (times_comm p q)
+      ∙ sym (times-second a q p)
 
   -- and distributes over the sum
   pub times-add : (p q r : List Bool) → times (l ∷ ls) p (add q r) ≡ add (times (l ∷ ls) p q) (times (l ∷ ls) p r)
@@ -237,13 +255,15 @@ module _ (l : Bool) (ls : List Bool) where
       let low = l ∷ ls in let x = times_x low in let u = times low p q in let v = times low p r in
       times-cons a p (add q r)
       ∙ ap (λ y. add (scaled a (remainder low (add q r))) (x y)) (times-add p q r)
-      ∙ ap (add (scaled a (remainder low (add q r)))) (times_x-add u v low (Same-remainder (product p q)) (Same-remainder (product p r)))
+      ∙ ap (add (scaled a (remainder low (add q r))))
+      (times_x-add u v low (Same-remainder (product p q)) (Same-remainder (product p r)))
       ∙ ap (λ y. add y (add (x u) (x v))) (scaled-sum a)
       ∙ add_swap (scaled a (remainder low q)) (scaled a (remainder low r)) (x u) (x v)
       ∙ ap (λ y. add y (add (scaled a (remainder low r)) (x v))) (sym (times-cons a p q))
       ∙ ap (add (times low (a ∷ p) q)) (sym (times-cons a p r))
     where
-      scaled-sum : (b : Bool) → scaled b (remainder (l ∷ ls) (add q r)) ≡ add (scaled b (remainder (l ∷ ls) q)) (scaled b (remainder (l ∷ ls) r))
+      scaled-sum : (b : Bool) → scaled b (remainder (l ∷ ls) (add q r))
+          ≡ add (scaled b (remainder (l ∷ ls) q)) (scaled b (remainder (l ∷ ls) r))
       scaled-sum false = refl
       scaled-sum true = remainder-add q r
 
@@ -252,7 +272,8 @@ module _ (l : Bool) (ls : List Bool) where
       times_comm (add p q) r ∙ times-add r p q
       ∙ ap (λ x. add x (times (l ∷ ls) r q)) (times_comm r p) ∙ ap (add (times (l ∷ ls) p r)) (times_comm r q)
 
-  times-times_x : (p q : List Bool) → Same q (l ∷ ls) → times (l ∷ ls) p (times_x (l ∷ ls) q) ≡ times_x (l ∷ ls) (times (l ∷ ls) p q)
+  times-times_x : (p q : List Bool) → Same q (l ∷ ls)
+      → times (l ∷ ls) p (times_x (l ∷ ls) q) ≡ times_x (l ∷ ls) (times (l ∷ ls) p q)
   times-times_x [] q s = sym (times_x-zeros (l ∷ ls))
   times-times_x (a ∷ p) q s =
       let low = l ∷ ls in let x = times_x low in
@@ -261,7 +282,8 @@ module _ (l : Bool) (ls : List Bool) where
       ∙ moved a
       ∙ ap x (sym (times-cons a p q))
     where
-      moved : (b : Bool) → add (scaled b (remainder (l ∷ ls) (times_x (l ∷ ls) q))) (times_x (l ∷ ls) (times_x (l ∷ ls) (times (l ∷ ls) p q)))
+      moved : (b : Bool) → add (scaled b (remainder (l ∷ ls) (times_x (l ∷ ls) q)))
+          (times_x (l ∷ ls) (times_x (l ∷ ls) (times (l ∷ ls) p q)))
           ≡ times_x (l ∷ ls) (add (scaled b (remainder (l ∷ ls) q)) (times_x (l ∷ ls) (times (l ∷ ls) p q)))
       moved false = refl
       moved true =
@@ -270,15 +292,18 @@ module _ (l : Bool) (ls : List Bool) where
           ∙ sym (times_x-add q r low s (Same-times_x (times low p q) low (Same-remainder (product p q))))
           ∙ ap (λ y. times_x low (add y r)) (sym (remainder_same q low s))
 
-  pub times_x-times : (p q : List Bool) → Same p (l ∷ ls) → times (l ∷ ls) (times_x (l ∷ ls) p) q ≡ times_x (l ∷ ls) (times (l ∷ ls) p q)
-  times_x-times p q s = times_comm (times_x (l ∷ ls) p) q ∙ times-times_x q p s ∙ ap (times_x (l ∷ ls)) (times_comm q p)
+  pub times_x-times : (p q : List Bool) → Same p (l ∷ ls)
+      → times (l ∷ ls) (times_x (l ∷ ls) p) q ≡ times_x (l ∷ ls) (times (l ∷ ls) p q)
+  times_x-times p q s =
+      times_comm (times_x (l ∷ ls) p) q ∙ times-times_x q p s ∙ ap (times_x (l ∷ ls)) (times_comm q p)
 
   times-remainder : (p q : List Bool) → times (l ∷ ls) p (remainder (l ∷ ls) q) ≡ times (l ∷ ls) p q
   times-remainder [] q = refl
   times-remainder (a ∷ p) q =
       let low = l ∷ ls in
       times-cons a p (remainder low q)
-      ∙ (λ i. add (scaled a (remainder_same (remainder low q) low (Same-remainder q) i)) (times_x low (times-remainder p q i)))
+      ∙ (λ i. add (scaled a (remainder_same (remainder low q) low (Same-remainder q) i))
+      (times_x low (times-remainder p q i)))
       ∙ sym (times-cons a p q)
 
   pub remainder-times : (p q : List Bool) → times (l ∷ ls) (remainder (l ∷ ls) p) q ≡ times (l ∷ ls) p q
@@ -288,19 +313,23 @@ module _ (l : Bool) (ls : List Bool) where
   zeros-times p =
       let low = l ∷ ls in
       ap (λ x. times low x p) (sym (zeros_add (zeros low) low (Same-zeros low)))
-      ∙ times_add (zeros low) (zeros low) p ∙ add_self (times low (zeros low) p) low (Same-remainder (product (zeros low) p))
+      ∙ times_add (zeros low) (zeros low) p
+      ∙ add_self (times low (zeros low) p) low (Same-remainder (product (zeros low) p))
 
   times_assoc-step : (a : Bool) (p q r : List Bool)
       → times (l ∷ ls) (times (l ∷ ls) p q) r ≡ times (l ∷ ls) p (times (l ∷ ls) q r)
       → times (l ∷ ls) (add (scaled a (remainder (l ∷ ls) q)) (times_x (l ∷ ls) (times (l ∷ ls) p q))) r
-      ≡ add (scaled a (remainder (l ∷ ls) (times (l ∷ ls) q r))) (times_x (l ∷ ls) (times (l ∷ ls) p (times (l ∷ ls) q r)))
+      ≡ add (scaled a (remainder (l ∷ ls) (times (l ∷ ls) q r)))
+      (times_x (l ∷ ls) (times (l ∷ ls) p (times (l ∷ ls) q r)))
   times_assoc-step false p q r e =
       times_x-times (times (l ∷ ls) p q) r (Same-remainder (product p q)) ∙ ap (times_x (l ∷ ls)) e
   times_assoc-step true p q r e =
       let low = l ∷ ls in
       times_add (remainder low q) (times_x low (times low p q)) r
-      ∙ ap (λ y. add y (times low (times_x low (times low p q)) r)) (remainder-times q r ∙ sym (remainder_same (times low q r) low (Same-remainder (product q r))))
-      ∙ ap (add (remainder low (times low q r))) (times_x-times (times low p q) r (Same-remainder (product p q)) ∙ ap (times_x low) e)
+      ∙ ap (λ y. add y (times low (times_x low (times low p q)) r))
+      (remainder-times q r ∙ sym (remainder_same (times low q r) low (Same-remainder (product q r))))
+      ∙ ap (add (remainder low (times low q r)))
+      (times_x-times (times low p q) r (Same-remainder (product p q)) ∙ ap (times_x low) e)
 
   -- and associative
   pub times_assoc : (p q r : List Bool) → times (l ∷ ls) (times (l ∷ ls) p q) r ≡ times (l ∷ ls) p (times (l ∷ ls) q r)
@@ -312,7 +341,8 @@ module _ (l : Bool) (ls : List Bool) where
   -- and has a one
   pub times-zeros : (z p : List Bool) → times (l ∷ ls) (zeros z) p ≡ zeros (l ∷ ls)
   times-zeros [] p = refl
-  times-zeros (a ∷ z) p = times-cons false (zeros z) p ∙ ap (times_x (l ∷ ls)) (times-zeros z p) ∙ times_x-zeros (l ∷ ls)
+  times-zeros (a ∷ z) p =
+      times-cons false (zeros z) p ∙ ap (times_x (l ∷ ls)) (times-zeros z p) ∙ times_x-zeros (l ∷ ls)
 
   pub one_times : (z p : List Bool) → Same p (l ∷ ls) → times (l ∷ ls) (true ∷ zeros z) p ≡ p
   one_times z p s =

@@ -1,5 +1,6 @@
 -- The bits of numbers.
-use Rattle.std.proofs.Common.{◌≡◌, ℕ, zero, suc, ◌+◌, ◌-◌, ◌*◌, ◌%◌, ◌^◌, ◌<◌, Bool, true, false, cond, ◌==◌, List, [], ◌∷◌, ◌++◌, length, bit_xor, refl, sym, ◌∙◌, ap, subst, arith, zero-add}
+use Rattle.std.proofs.Common.{◌≡◌, ℕ, zero, suc, ◌+◌, ◌-◌, ◌*◌, ◌%◌, ◌^◌, ◌<◌, Bool, true, false, cond, ◌==◌, List}
+use Rattle.std.proofs.Common.{[], ◌∷◌, ◌++◌, length, bit_xor, refl, sym, ◌∙◌, ap, subst, arith, zero-add}
 use Rattle.std.proofs.Math.Nat.{pow-suc, suc-add}
 use Rattle.std.proofs.lemmas.Nat.{mod-pow-add}
 use Rattle.std.proofs.lemmas.Nat.Bits.{bit_at_xor, bit_at_cat_low, bit_at_cat_high, bit_at_above, bit_at-lt}
@@ -28,7 +29,8 @@ plus-digits zero (suc (suc b)) h g = absurd (omega arith)
 plus-digits (suc zero) (suc (suc b)) h g = absurd (omega arith)
 
 bit-xor : (x y k : ℕ) → bit (bit_xor x y) k ≡ plus (bit x k) (bit y k)
-bit-xor x y k = ap (λ n. n == 1) (bit_at_xor x y k) ∙ plus-digits (bit_at x k) (bit_at y k) (bit_at-lt x k) (bit_at-lt y k)
+bit-xor x y k =
+    ap (λ n. n == 1) (bit_at_xor x y k) ∙ plus-digits (bit_at x k) (bit_at y k) (bit_at-lt x k) (bit_at-lt y k)
 
 pub bits-xor : (n x y : ℕ) → bits n (bit_xor x y) ≡ add (bits n x) (bits n y)
 unfolding bits
@@ -70,7 +72,8 @@ bits-number_of (true ∷ p) =
     let n = length p in let r = number_of p in
     let none : n - n ≡ 0 = omega arith in
     let above : bit (2 ^ n + r) n ≡ true =
-    ap (λ d. d == 1) (ap (λ k. bit_at k n) one_more ∙ bit_at_cat_high 1 n r n (number_of-lt p) (omega arith) ∙ ap (bit_at 1) none) in
+    ap (λ d. d == 1) (ap (λ k. bit_at k n) one_more ∙ bit_at_cat_high 1 n r n (number_of-lt p) (omega arith)
+    ∙ ap (bit_at 1) none) in
     λ i. above i ∷ (ap (bits n) one_more ∙ bits-low n 1 r ∙ bits-number_of p) i
   where
     one_more : 2 ^ length p + number_of p ≡ 1 * 2 ^ length p + number_of p

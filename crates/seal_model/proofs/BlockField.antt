@@ -1,27 +1,18 @@
 -- The field of blocks, and GHASH one block at a time.
-use Rattle.std.proofs.Common.{◌≡◌, ℕ, zero, suc, ◌+◌, ◌*◌, ◌%◌, Bool, true, false, List, [], ◌∷◌, ◌++◌, length, take, drop, replicate, refl, sym, ◌∙◌, ap, arith, length-append}
+use Rattle.std.proofs.Common.{◌≡◌, ℕ, zero, suc, ◌+◌, ◌*◌, ◌%◌, Bool, true, false, List, [], ◌∷◌, ◌++◌, length, take}
+use Rattle.std.proofs.Common.{drop, replicate, refl, sym, ◌∙◌, ap, arith, length-append}
 use Rattle.seal_model.specs.Polynomial.{zeros, scaled, times_x, add, product, bits, number_of}
 use Rattle.seal_model.specs.Gcm.{block_modulus, field_product, field_one, power, power_sum, polynomial_of, bytes_of}
 use Rattle.seal_model.specs.Laws.{IsBlockRing, HashGoesByBlocks}
 use Rattle.seal_model.proofs.Lists.{AreBytes}
-use Rattle.seal_model.proofs.Algebra.{times-cons, remainder_same, times, add_comm, add_assoc, zeros_add, add_zeros, Same-add, Same-remainder, times_comm, times_assoc, times-add, times_add, one_times}
+use Rattle.seal_model.proofs.Algebra.{times-cons, remainder_same, times, add_comm, add_assoc}
+use Rattle.seal_model.proofs.Algebra.{zeros_add, add_zeros, Same-add, Same-remainder}
+use Rattle.seal_model.proofs.Algebra.{times_comm, times_assoc, times-add, times_add, one_times}
 use Rattle.seal_model.proofs.Bits.{Same-length, length-Same, length-bits, number_of-bits}
 
 -- the modulus without its first coefficient
 abbrev pub modulus_rest : List Bool
 modulus_rest = true ∷ true ∷ false ∷ false ∷ false ∷ false ∷ true ∷ replicate 120 false
-
-pub field_product_comm : (p q : List Bool) → field_product p q ≡ field_product q p
-unfolding field_product block_modulus
-field_product_comm p q = times_comm true modulus_rest p q
-
-pub field_product_assoc : (p q r : List Bool) → field_product (field_product p q) r ≡ field_product p (field_product q r)
-unfolding field_product block_modulus
-field_product_assoc p q r = times_assoc true modulus_rest p q r
-
-pub field_product-add : (p q r : List Bool) → field_product p (add q r) ≡ add (field_product p q) (field_product p r)
-unfolding field_product block_modulus
-field_product-add p q r = times-add true modulus_rest p q r
 
 pub field_product_add : (p q r : List Bool) → field_product (add p q) r ≡ add (field_product p r) (field_product q r)
 unfolding field_product block_modulus
@@ -29,18 +20,16 @@ field_product_add p q r = times_add true modulus_rest p q r
 
 pub length-field_product : (p q : List Bool) → length (field_product p q) ≡ 128
 unfolding field_product block_modulus
-length-field_product p q = length-Same (field_product p q) (true ∷ modulus_rest) (Same-remainder true modulus_rest (product p q))
-
-pub one_field_product : (p : List Bool) → length p ≡ 128 → field_product field_one p ≡ p
-unfolding field_product block_modulus field_one
-one_field_product p e = one_times true modulus_rest modulus_rest p (Same-length p (true ∷ modulus_rest) e)
+length-field_product p q =
+    length-Same (field_product p q) (true ∷ modulus_rest) (Same-remainder true modulus_rest (product p q))
 
 pub block_ring : IsBlockRing
+unfolding field_product block_modulus field_one
 block_ring = record {
-  commutative = field_product_comm;
-  associative = field_product_assoc;
-  distributive = field_product-add;
-  has_one = one_field_product;
+  commutative = times_comm true modulus_rest;
+  associative = times_assoc true modulus_rest;
+  distributive = times-add true modulus_rest;
+  has_one = λ p e. one_times true modulus_rest modulus_rest p (Same-length p (true ∷ modulus_rest) e);
 }
 
 pub length-add : (p q : List Bool) → length p ≡ 128 → length q ≡ 128 → length (add p q) ≡ 128
@@ -82,14 +71,15 @@ unfolding power_sum power
 power_sum-append h b [] e f =
     add_comm (field_product b (field_product field_one h)) (replicate 128 false)
     ∙ zeros_add (field_product b (field_product field_one h)) (true ∷ modulus_rest)
-    (Same-length (field_product b (field_product field_one h)) (true ∷ modulus_rest) (length-field_product b (field_product field_one h)))
-    ∙ ap (field_product b) (one_field_product h e)
+    (Same-length (field_product b (field_product field_one h)) (true ∷ modulus_rest)
+    (length-field_product b (field_product field_one h)))
+    ∙ ap (field_product b) (block_ring.has_one h e)
     ∙ ap (λ p. field_product p h) (sym (zeros_add b (true ∷ modulus_rest) (Same-length b (true ∷ modulus_rest) f)))
 power_sum-append h b (c ∷ blocks) e f =
     let s = power_sum h blocks in let first = field_product c (power h (suc (length blocks))) in
     ap (λ n. add (field_product c (power h (suc n))) (power_sum h (blocks ++ b ∷ []))) (length-after blocks b)
     ∙ ap (add (field_product c (field_product (power h (suc (length blocks))) h))) (power_sum-append h b blocks e f)
-    ∙ ap (λ p. add p (field_product (add s b) h)) (sym (field_product_assoc c (power h (suc (length blocks))) h))
+    ∙ ap (λ p. add p (field_product (add s b) h)) (sym (block_ring.associative c (power h (suc (length blocks))) h))
     ∙ sym (field_product_add first (add s b) h)
     ∙ ap (λ p. field_product p h) (sym (add_assoc first s b))
 
@@ -129,4 +119,5 @@ bytes_of-polynomial_of (b ∷ s) h =
     let first : take 8 (bits 8 b ++ polynomial_of s) ≡ bits 8 b = take_bits b (polynomial_of s) in
     let rest : drop 8 (bits 8 b ++ polynomial_of s) ≡ polynomial_of s = drop_bits b (polynomial_of s) in
     let byte : b % 256 ≡ b = omega (arith, h.0) in
-    λ i. (ap number_of first ∙ number_of-bits 8 b ∙ byte) i ∷ (ap (bytes_of (length s)) rest ∙ bytes_of-polynomial_of s h.1) i
+    λ i. (ap number_of first ∙ number_of-bits 8 b ∙ byte) i
+    ∷ (ap (bytes_of (length s)) rest ∙ bytes_of-polynomial_of s h.1) i

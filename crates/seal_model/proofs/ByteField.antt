@@ -1,13 +1,18 @@
 -- The field of bytes.
-use Rattle.std.proofs.Common.{◌≡◌, ◌≢◌, ℕ, zero, suc, ◌%◌, ◌^◌, ◌<◌, Bool, true, false, cond, ◌==◌, ◌&&◌, ◌||◌, nat_lt, List, [], ◌∷◌, ◌++◌, length, reverse, bit_xor, slice_index, refl, sym, ◌∙◌, ap, subst, ◌⊎◌, inl, inr, arith}
+use Rattle.std.proofs.Common.{◌≡◌, ◌≢◌, ℕ, zero, suc, ◌%◌, ◌^◌, ◌<◌, Bool, true, false, cond, ◌==◌, ◌&&◌, ◌||◌}
+use Rattle.std.proofs.Common.{nat_lt, List, [], ◌∷◌, ◌++◌, length, reverse, bit_xor, slice_index, refl, sym, ◌∙◌, ap}
+use Rattle.std.proofs.Common.{subst, ◌⊎◌, inl, inr, arith}
 use Rattle.std.proofs.lemmas.List.{length-reverse, reverse-reverse, reverse-append}
 use Rattle.std.proofs.lemmas.Nat.{xor_of_8}
 use Rattle.std.proofs.lemmas.Bool.{eqb-true, eq-eqb, ne_eqb, ltb-true, cases_lt, false≢true}
 use Rattle.seal_model.specs.Polynomial.{plus, add, zeros, product, bits, number_of}
 use Rattle.seal_model.specs.Aes.{polynomial_of, byte_modulus, multiply, inverse_below, inverse, affine, s_box}
-use Rattle.seal_model.specs.Laws.{IsByteField, SBoxValues}
-use Rattle.seal_model.proofs.Algebra.{Same, none, more, times, Same-remainder, times_comm, times_assoc, times-add, one_times}
-use Rattle.seal_model.proofs.Bits.{Same-length, length-Same, bits-xor, length-bits, number_of-lt, bits-of_length, number_of-bits}
+use Rattle.seal_model.specs.Laws.{Commutative, Associative, Distributive, IsClosed}
+use Rattle.seal_model.specs.Laws.{IsOne, IsByte, IsByteField, SBoxValues}
+use Rattle.seal_model.proofs.Algebra.{Same, none, more, times, Same-remainder}
+use Rattle.seal_model.proofs.Algebra.{times_comm, times_assoc, times-add, one_times}
+use Rattle.seal_model.proofs.Bits.{Same-length, length-Same, bits-xor, length-bits}
+use Rattle.seal_model.proofs.Bits.{number_of-lt, bits-of_length, number_of-bits}
 
 -- the modulus without its first coefficient
 abbrev modulus_rest : List Bool
@@ -17,7 +22,8 @@ abbrev ring_product : List Bool → List Bool → List Bool
 ring_product = times (true ∷ modulus_rest)
 
 length-product : (p q : List Bool) → length (ring_product p q) ≡ 8
-length-product p q = length-Same (ring_product p q) (true ∷ modulus_rest) (Same-remainder true modulus_rest (product p q))
+length-product p q =
+    length-Same (ring_product p q) (true ∷ modulus_rest) (Same-remainder true modulus_rest (product p q))
 
 multiply-is : (a b : ℕ) → multiply a b ≡ number_of (reverse (ring_product (polynomial_of a) (polynomial_of b)))
 unfolding multiply byte_modulus
@@ -39,7 +45,8 @@ reverse-add : (p q : List Bool) → Same p q → reverse (add p q) ≡ add (reve
 reverse-add _ _ none = refl
 reverse-add (a ∷ p) (b ∷ q) (more e) =
     reverse-append (plus a b ∷ []) (add p q) ∙ ap (λ x. x ++ plus a b ∷ []) (reverse-add p q e)
-    ∙ sym (add-append (reverse p) (reverse q) (a ∷ []) (b ∷ []) (Same-length (reverse p) (reverse q) (length-reverse p ∙ length-Same p q e ∙ sym (length-reverse q))))
+    ∙ sym (add-append (reverse p) (reverse q) (a ∷ []) (b ∷ [])
+    (Same-length (reverse p) (reverse q) (length-reverse p ∙ length-Same p q e ∙ sym (length-reverse q))))
     ∙ (λ i. add (sym (reverse-append (a ∷ []) p) i) (sym (reverse-append (b ∷ []) q) i))
 
 polynomial_of-xor : (a b : ℕ) → polynomial_of (bit_xor a b) ≡ add (polynomial_of a) (polynomial_of b)
@@ -59,24 +66,29 @@ same_byte a b h g e =
     let mods : a % 256 ≡ b % 256 = sym (number_of-bits 8 a) ∙ ap number_of same ∙ number_of-bits 8 b in
     omega arith
 
-pub multiply-lt : (a b : ℕ) → multiply a b < 256
+pub multiply-lt : IsClosed IsByte multiply
 multiply-lt a b =
     let r = ring_product (polynomial_of a) (polynomial_of b) in
     subst (λ n. n < 256) (sym (multiply-is a b))
-    (subst (λ k. number_of (reverse r) < 2 ^ k) (length-reverse r ∙ length-product (polynomial_of a) (polynomial_of b)) (number_of-lt (reverse r)))
+    (subst (λ k. number_of (reverse r) < 2 ^ k)
+    (length-reverse r ∙ length-product (polynomial_of a) (polynomial_of b)) (number_of-lt (reverse r)))
 
-pub multiply_comm : (a b : ℕ) → multiply a b ≡ multiply b a
+pub multiply_comm : Commutative multiply
 multiply_comm a b =
-    multiply-is a b ∙ ap (λ p. number_of (reverse p)) (times_comm true modulus_rest (polynomial_of a) (polynomial_of b)) ∙ sym (multiply-is b a)
+    multiply-is a b
+    ∙ ap (λ p. number_of (reverse p)) (times_comm true modulus_rest (polynomial_of a) (polynomial_of b))
+    ∙ sym (multiply-is b a)
 
-pub multiply_assoc : (a b c : ℕ) → multiply (multiply a b) c ≡ multiply a (multiply b c)
+pub multiply_assoc : Associative multiply
 multiply_assoc a b c =
-    same_byte (multiply (multiply a b) c) (multiply a (multiply b c)) (multiply-lt (multiply a b) c) (multiply-lt a (multiply b c))
+    same_byte (multiply (multiply a b) c) (multiply a (multiply b c)) (multiply-lt (multiply a b) c)
+    (multiply-lt a (multiply b c))
     (polynomial_of-multiply (multiply a b) c ∙ ap (λ p. ring_product p (polynomial_of c)) (polynomial_of-multiply a b)
     ∙ times_assoc true modulus_rest (polynomial_of a) (polynomial_of b) (polynomial_of c)
-    ∙ ap (ring_product (polynomial_of a)) (sym (polynomial_of-multiply b c)) ∙ sym (polynomial_of-multiply a (multiply b c)))
+    ∙ ap (ring_product (polynomial_of a)) (sym (polynomial_of-multiply b c))
+    ∙ sym (polynomial_of-multiply a (multiply b c)))
 
-pub multiply-xor : (a b c : ℕ) → multiply a (bit_xor b c) ≡ bit_xor (multiply a b) (multiply a c)
+pub multiply-xor : Distributive multiply bit_xor
 multiply-xor a b c =
     same_byte (multiply a (bit_xor b c)) (bit_xor (multiply a b) (multiply a c))
     (multiply-lt a (bit_xor b c)) (xor_of_8 (multiply a b) (multiply a c) (multiply-lt a b) (multiply-lt a c))
@@ -89,11 +101,12 @@ polynomial_of-one : polynomial_of 1 ≡ true ∷ zeros modulus_rest
 unfolding polynomial_of bits
 polynomial_of-one = refl
 
-pub one_multiply : (a : ℕ) → a < 256 → multiply 1 a ≡ a
+pub one_multiply : IsOne IsByte multiply 1
 one_multiply a h =
     same_byte (multiply 1 a) a (multiply-lt 1 a) h
     (polynomial_of-multiply 1 a ∙ ap (λ p. ring_product p (polynomial_of a)) polynomial_of-one
-    ∙ one_times true modulus_rest modulus_rest (polynomial_of a) (Same-length (polynomial_of a) (true ∷ modulus_rest) (length-polynomial_of a)))
+    ∙ one_times true modulus_rest modulus_rest (polynomial_of a)
+    (Same-length (polynomial_of a) (true ∷ modulus_rest) (length-polynomial_of a)))
 
 -- ---- inverses
 -- a test of each number below n
@@ -111,7 +124,8 @@ all_below-at zero test e k h = absurd (omega arith)
 all_below-at (suc n) test e k h =
     elim (cases_lt k n) [
       | inl below ↦ all_below-at n test (both_true (test n) (all_below n test) e).1 k below
-      | inr above ↦ let same : n ≡ k = omega arith in subst (λ m. test m ≡ true) same (both_true (test n) (all_below n test) e).0
+      | inr above ↦ let same : n ≡ k = omega arith in
+          subst (λ m. test m ≡ true) same (both_true (test n) (all_below n test) e).0
     ]
 
 -- the inverse of each byte
@@ -149,10 +163,14 @@ record Inverse (x y : ℕ) : Type 0 where
 
 in_table : (x : ℕ) → x < 256 → x ≢ 0 → Inverse x (table_inverse x)
 in_table x h nonzero =
-    let passed = both_true _ _ (all_below-at 256 (λ k. nat_lt (table_inverse k) 256 && (k == 0 || multiply k (table_inverse k) == 1)) table_test x h) in
+    let passed = both_true _ _
+    (all_below-at 256
+    (λ k. nat_lt (table_inverse k) 256 && (k == 0 || multiply k (table_inverse k) == 1)) table_test x h) in
     record {
       fits = ltb-true (table_inverse x) 256 passed.0;
-      is_one = eqb-true (multiply x (table_inverse x)) 1 (subst (λ b. (b || multiply x (table_inverse x) == 1) ≡ true) (ne_eqb x 0 nonzero) passed.1);
+      is_one =
+          eqb-true (multiply x (table_inverse x)) 1
+          (subst (λ b. (b || multiply x (table_inverse x) == 1) ≡ true) (ne_eqb x 0 nonzero) passed.1);
     }
 
 inverse_unique : (x y z : ℕ) → y < 256 → z < 256 → multiply x y ≡ 1 → multiply x z ≡ 1 → y ≡ z
@@ -160,7 +178,8 @@ inverse_unique x y z h g e f =
     sym (one_multiply y h) ∙ ap (λ n. multiply n y) (sym f ∙ multiply_comm x z) ∙ multiply_assoc z x y
     ∙ ap (multiply z) e ∙ multiply_comm z 1 ∙ one_multiply z g
 
-chosen : (test : Bool) (y other x : ℕ) → (multiply x y == 1) ≡ test → (multiply x (cond test y other) ≡ 1) ⊎ (test ≡ false)
+chosen : (test : Bool) (y other x : ℕ) → (multiply x y == 1) ≡ test
+    → (multiply x (cond test y other) ≡ 1) ⊎ (test ≡ false)
 chosen true y other x e = inl (eqb-true (multiply x y) 1 e)
 chosen false y other x e = inr refl
 
@@ -171,55 +190,55 @@ inverse_below-found (suc n) x y h e =
     elim (chosen (multiply x n == 1) n (inverse_below n x) x refl) [
       | inl found ↦ found
       | inr other ↦
-          let not_last : y ≢ n = λ same. elim (false≢true (sym other ∙ eq-eqb (multiply x n) 1 (ap (multiply x) (sym same) ∙ e))) [ ] in
-          subst (λ b. multiply x (cond b n (inverse_below n x)) ≡ 1) (sym other) (inverse_below-found n x y (omega arith) e)
+          let not_last : y ≢ n =
+          λ same. elim (false≢true (sym other ∙ eq-eqb (multiply x n) 1 (ap (multiply x) (sym same) ∙ e))) [ ] in
+          subst (λ b. multiply x (cond b n (inverse_below n x)) ≡ 1) (sym other)
+          (inverse_below-found n x y (omega arith) e)
     ]
 
 inverse_below-lt : (n x : ℕ) → 0 < n → inverse_below n x < n
 unfolding inverse_below
 inverse_below-lt zero x h = absurd (omega arith)
-inverse_below-lt (suc zero) x h = elim (multiply x 0 == 1) as (λ b. cond b 0 0 < 1) [ true ↦ omega arith | false ↦ omega arith ]
+inverse_below-lt (suc zero) x h =
+    elim (multiply x 0 == 1) as (λ b. cond b 0 0 < 1) [ true ↦ omega arith | false ↦ omega arith ]
 inverse_below-lt (suc (suc n)) x h =
     let below = inverse_below-lt (suc n) x (omega arith) in
-    elim (multiply x (suc n) == 1) as (λ b. cond b (suc n) (inverse_below (suc n) x) < suc (suc n)) [ true ↦ omega arith | false ↦ omega arith ]
-
-pub inverse-lt : (x : ℕ) → inverse x < 256
-unfolding inverse
-inverse-lt x = inverse_below-lt 256 x (omega arith)
-
-pub inverse-is_inverse : (x : ℕ) → x < 256 → x ≢ 0 → multiply x (inverse x) ≡ 1
-unfolding inverse
-inverse-is_inverse x h nonzero =
-    let entry = in_table x h nonzero in inverse_below-found 256 x (table_inverse x) entry.fits entry.is_one
+    elim (multiply x (suc n) == 1) as (λ b. cond b (suc n) (inverse_below (suc n) x) < suc (suc n)) [
+      | true ↦ omega arith
+      | false ↦ omega arith
+    ]
 
 inverse-zero : inverse 0 ≡ 0
 unfolding inverse inverse_below multiply byte_modulus polynomial_of bits
 inverse-zero = refl
+
+pub byte_field : IsByteField
+unfolding inverse
+byte_field = record {
+  closed = multiply-lt;
+  inverse_closed = λ x. inverse_below-lt 256 x (omega arith);
+  commutative = multiply_comm;
+  associative = multiply_assoc;
+  distributive = multiply-xor;
+  has_one = one_multiply;
+  has_inverses = λ x h nonzero.
+      let entry = in_table x h nonzero in
+      inverse_below-found 256 x (table_inverse x) entry.fits entry.is_one;
+  inverse_of_zero = inverse-zero;
+}
 
 pub inverse-table : (x : ℕ) → x < 256 → inverse x ≡ table_inverse x
 unfolding inverse_table
 inverse-table zero h = inverse-zero
 inverse-table (suc x) h =
     let nonzero : suc x ≢ 0 = omega arith in let entry = in_table (suc x) h nonzero in
-    inverse_unique (suc x) (inverse (suc x)) (table_inverse (suc x)) (inverse-lt (suc x)) entry.fits
-    (inverse-is_inverse (suc x) h nonzero) entry.is_one
+    inverse_unique (suc x) (inverse (suc x)) (table_inverse (suc x)) (byte_field.inverse_closed (suc x)) entry.fits
+    (byte_field.has_inverses (suc x) h nonzero) entry.is_one
 
 -- the S-box, with the table's inverse
 pub s_box-table : (x : ℕ) → x < 256 → s_box x ≡ affine (table_inverse x)
 unfolding s_box
 s_box-table x h = ap affine (inverse-table x h)
-
-pub byte_field : IsByteField
-byte_field = record {
-  closed = multiply-lt;
-  inverse_closed = inverse-lt;
-  commutative = multiply_comm;
-  associative = multiply_assoc;
-  distributive = multiply-xor;
-  has_one = one_multiply;
-  has_inverses = inverse-is_inverse;
-  inverse_of_zero = inverse-zero;
-}
 
 pub s_box_values : SBoxValues
 unfolding affine inverse_table

@@ -58,7 +58,8 @@ unfoldable power_254 : ℕ → ℕ
 power_254 x = from_2 x (square x)
 
 power_test : all_below 256 (λ x. power_254 x == table_inverse x) ≡ true
-unfolding all_below power_254 from_2 from_3 from_12 from_15 square multiply byte_modulus polynomial_of bits inverse_table
+unfolding all_below power_254 from_2 from_3 from_12 from_15 square multiply byte_modulus
+    polynomial_of bits inverse_table
 power_test = refl
 
 square_is : (x y m : ℕ) → y ≡ byte_power x m → square y ≡ byte_power x (m + m)

@@ -1,5 +1,6 @@
 -- What opens was sealed: an answer comes of the sealed text of this very text alone.
-use Rattle.std.proofs.Common.{◌≡◌, ℕ, ◌-◌, Bool, true, false, cond, List, ◌++◌, length, Some, None, refl, sym, ◌∙◌, ap, inl, inr, take-append-drop}
+use Rattle.std.proofs.Common.{◌≡◌, ℕ, ◌-◌, Bool, true, false, cond, List, ◌++◌, length, Some, None, refl, sym, ◌∙◌}
+use Rattle.std.proofs.Common.{ap, inl, inr, take-append-drop}
 use Rattle.std.specs.Str.{bytes_eq}
 use Rattle.std.proofs.lemmas.Bool.{cases_lt}
 use Rattle.std.proofs.lemmas.Slice.Eq.{bytes_eq-Decides}

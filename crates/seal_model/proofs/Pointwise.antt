@@ -1,11 +1,12 @@
 -- Operators lane by lane.
-use Rattle.std.proofs.Common.{◌≡◌, ℕ, zero, suc, ◌-◌, ◌*◌, ◌^◌, ◌<◌, ◌==◌, cond, eqb, false, List, [], ◌∷◌, length, get_or, map, replicate, bit_and}
-use Rattle.std.proofs.Common.{sym, ◌∙◌, ap, subst, arith, Fits}
+use Rattle.std.proofs.Common.{◌≡◌, ℕ, zero, suc, ◌-◌, ◌*◌, ◌^◌, ◌<◌, ◌==◌, cond, eqb, false, List, [], ◌∷◌, length}
+use Rattle.std.proofs.Common.{get_or, map, replicate, bit_and, sym, ◌∙◌, ap, subst, arith, Fits}
 use Rattle.std.specs.Int.{Width}
 use mir.Val.{bits, hbits}
 use lib.Lanes.{zip2, sel_l, top, Each1}
 use Rattle.std.proofs.lemmas.Nat.{pow_pos}
-use Rattle.std.proofs.lemmas.Simd.{length-replicate, length-zip2, get_or-zip2, get_or-replicate, length-sel_l, get_or-sel_l, tops_compared}
+use Rattle.std.proofs.lemmas.Simd.{length-replicate, length-zip2, get_or-zip2}
+use Rattle.std.proofs.lemmas.Simd.{get_or-replicate, length-sel_l, get_or-sel_l, tops_compared}
 use Rattle.std.proofs.lemmas.Bool.{eq-eqb, ne_eqb}
 use Rattle.std.proofs.lemmas.Nat.Bits.{and_pow, bit_at-lt}
 use Rattle.std.specs.Int.{bit_at}

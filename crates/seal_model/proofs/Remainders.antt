@@ -1,6 +1,7 @@
 -- The remainder leaves a multiple of the modulus.
 use Rattle.std.proofs.Common.{◌≡◌, ℕ, zero, suc, Bool, true, false, List, [], ◌∷◌, ◌++◌, refl, sym, ◌∙◌, ap, arith}
-use Rattle.seal_model.specs.Polynomial.{plus, add, scaled, product, zeros, but_last, last_of, times_x, remainder, coefficient}
+use Rattle.seal_model.specs.Polynomial.{plus, add, scaled, product, zeros, but_last}
+use Rattle.seal_model.specs.Polynomial.{last_of, times_x, remainder, coefficient}
 use Rattle.seal_model.specs.Laws.{RemainderIsRemainder}
 use Rattle.seal_model.proofs.Algebra.{Same, none, more, Same-remainder, Same-but_last, plus_assoc, plus_comm}
 use Rattle.seal_model.proofs.Bits.{length-Same}
@@ -25,7 +26,8 @@ but_last-last_of a (b ∷ p) = ap (λ x. a ∷ x) (but_last-last_of b p)
 
 -- t times x ^ n is t times low and t times the modulus
 modulus_apart : (t : Bool) (p low : List Bool) (k : ℕ) → Same p low
-    → coefficient (p ++ t ∷ []) k ≡ plus (coefficient p k) (plus (coefficient (scaled t low) k) (coefficient (scaled t (low ++ true ∷ [])) k))
+    → coefficient (p ++ t ∷ []) k
+    ≡ plus (coefficient p k) (plus (coefficient (scaled t low) k) (coefficient (scaled t (low ++ true ∷ [])) k))
 modulus_apart false _ _ zero none = refl
 modulus_apart true _ _ zero none = refl
 modulus_apart false _ _ (suc k) none = refl
@@ -38,12 +40,15 @@ modulus_apart true (a ∷ p) (l ∷ low) (suc k) (more s) = modulus_apart true p
 
 -- p is a multiple of the modulus, and r
 IsRest : List Bool → List Bool → List Bool → Type 0
-IsRest low p r = (q : List Bool) × ((k : ℕ) → coefficient p k ≡ plus (coefficient r k) (coefficient (product q (low ++ true ∷ [])) k))
+IsRest low p r =
+    (q : List Bool)
+    × ((k : ℕ) → coefficient p k ≡ plus (coefficient r k) (coefficient (product q (low ++ true ∷ [])) k))
 
 rest-step : (a : Bool) (low p r q : List Bool) → Same r low
     → ((k : ℕ) → coefficient p k ≡ plus (coefficient r k) (coefficient (product q (low ++ true ∷ [])) k))
     → (k : ℕ) → coefficient (a ∷ p) k
-    ≡ plus (coefficient (add (a ∷ []) (times_x low r)) k) (coefficient (product (last_of false r ∷ q) (low ++ true ∷ [])) k)
+    ≡ plus (coefficient (add (a ∷ []) (times_x low r)) k)
+    (coefficient (product (last_of false r ∷ q) (low ++ true ∷ [])) k)
 rest-step a low p r q s rest k =
     let m = low ++ true ∷ [] in let t = last_of false r in let u = but_last false r in
     let moved = false ∷ product q m in
@@ -52,10 +57,15 @@ rest-step a low p r q s rest k =
     (ap (λ x. coefficient x k) (but_last-last_of false r) ∙ modulus_apart t u low k (Same-but_last false r low s))
     ∙ sym (
     (λ i. plus (coefficient-add (a ∷ []) (times_x low r) k i) (coefficient-add (scaled t m) moved k i))
-    ∙ ap (λ y. plus (plus (coefficient (a ∷ []) k) y) (plus (coefficient (scaled t m) k) (coefficient moved k))) (coefficient-add u (scaled t low) k)
-    ∙ regroup (coefficient (a ∷ []) k) (coefficient u k) (coefficient (scaled t low) k) (coefficient (scaled t m) k) (coefficient moved k))
+    ∙ ap (λ y. plus (plus (coefficient (a ∷ []) k) y) (plus (coefficient (scaled t m) k) (coefficient moved k)))
+    (coefficient-add u (scaled t low) k)
+    ∙ regroup (coefficient (a ∷ []) k) (coefficient u k) (coefficient (scaled t low) k)
+    (coefficient (scaled t m) k) (coefficient moved k))
   where
-    start : (k : ℕ) → coefficient (a ∷ p) k ≡ plus (coefficient (a ∷ []) k) (plus (coefficient (false ∷ r) k) (coefficient (false ∷ product q (low ++ true ∷ [])) k))
+    start : (k : ℕ)
+        → coefficient (a ∷ p) k
+        ≡ plus (coefficient (a ∷ []) k)
+        (plus (coefficient (false ∷ r) k) (coefficient (false ∷ product q (low ++ true ∷ [])) k))
     start zero = sym (plus_false a)
     start (suc j) = rest j
 

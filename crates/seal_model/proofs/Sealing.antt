@@ -1,14 +1,19 @@
 -- Opening a sealed text gives the text.
-use Rattle.std.proofs.Common.{◌≡◌, ℕ, zero, suc, ◌+◌, ◌-◌, ◌*◌, ◌≤◌, true, cond, ◌&&◌, List, [], ◌∷◌, ◌++◌, length, take, drop, bit_xor, Some, None, refl, ◌∙◌, ap, sym, ◌≢◌, ◌<◌, Bool, false, inl, inr, arith, length-append}
+use Rattle.std.proofs.Common.{◌≡◌, ℕ, zero, suc, ◌+◌, ◌-◌, ◌*◌, ◌≤◌, true, cond, ◌&&◌, List, []}
+use Rattle.std.proofs.Common.{◌∷◌, ◌++◌, length, take, drop, bit_xor, Some, None, refl, ◌∙◌, ap}
+use Rattle.std.proofs.Common.{sym, ◌≢◌, ◌<◌, Bool, false, inl, inr, arith, length-append}
 use Rattle.std.specs.Int.Bits.{xor_self, xor_zero_r, xor_assoc}
 use Rattle.std.specs.Str.{bytes_eq}
 use Rattle.std.proofs.Math.Seq.{take-append_seam, drop-append_seam}
 use Rattle.std.proofs.lemmas.Bool.{lt-leb, le-leb, cases_lt}
 use Rattle.std.proofs.lemmas.Slice.Eq.{bytes_eq-Decides}
+use Rattle.std.proofs.lemmas.List.{take_at, drop_at}
+use Rattle.seal_model.specs.Sealed.{sealed_text, unsealed}
 use Rattle.seal_model.specs.Bytes.{xor_bytes}
 use Rattle.seal_model.specs.Aes.{encrypt, cipher, shift_rows, round_key}
-use Rattle.seal_model.specs.Gcm.{counter_block, key_stream, block_count, encrypted, hash_key, blocks_of, lengths_block, ghash, tag, tag_of, ciphertext_of, seal, unseal}
-use Rattle.seal_model.specs.Laws.{UnsealAnswersAll, UnsealGivesText}
+use Rattle.seal_model.specs.Gcm.{counter_block, key_stream, block_count, encrypted, hash_key, blocks_of}
+use Rattle.seal_model.specs.Gcm.{lengths_block, ghash, tag, tag_of, ciphertext_of, seal, unseal}
+use Rattle.seal_model.specs.Laws.{SealedTextsOpen, UnsealAnswersAll, UnsealGivesText}
 use Rattle.seal_model.proofs.BlockField.{length-bytes_of}
 
 pub length-xor_bytes : (s t : List ℕ) → length s ≤ length t → length (xor_bytes s t) ≡ length s
@@ -45,7 +50,8 @@ length-encrypted key nonce text =
 pub encrypted-encrypted : (key nonce text : List ℕ) → encrypted key nonce (encrypted key nonce text) ≡ text
 unfolding encrypted
 encrypted-encrypted key nonce text =
-    ap (λ n. xor_bytes (encrypted key nonce text) (key_stream key nonce (block_count n))) (length-encrypted key nonce text)
+    ap (λ n. xor_bytes (encrypted key nonce text) (key_stream key nonce (block_count n)))
+    (length-encrypted key nonce text)
     ∙ xor_bytes-xor_bytes text (key_stream key nonce (block_count (length text))) (stream_reaches key nonce text)
 
 pub length-tag : (key nonce aad text : List ℕ) → length (tag key nonce aad text) ≡ 16
@@ -66,15 +72,18 @@ other_tag s t true e h = absurd (h ((bytes_eq-Decides s t).0 e))
 pub unseal-short : (key nonce aad sealed : List ℕ) → length sealed < 16 → unseal key nonce aad sealed ≡ None
 unfolding unseal
 unseal-short key nonce aad sealed h =
-    ap (λ b. cond (b && bytes_eq (tag_of sealed) (tag key nonce aad (ciphertext_of sealed))) (Some (encrypted key nonce (ciphertext_of sealed))) None)
+    ap (λ b. cond (b && bytes_eq (tag_of sealed) (tag key nonce aad (ciphertext_of sealed)))
+    (Some (encrypted key nonce (ciphertext_of sealed))) None)
     (lt-leb 16 (length sealed) h)
 
 pub unseal-long : (key nonce aad sealed : List ℕ) → 16 ≤ length sealed
     → unseal key nonce aad sealed
-    ≡ cond (bytes_eq (tag_of sealed) (tag key nonce aad (ciphertext_of sealed))) (Some (encrypted key nonce (ciphertext_of sealed))) None
+    ≡ cond (bytes_eq (tag_of sealed) (tag key nonce aad (ciphertext_of sealed)))
+    (Some (encrypted key nonce (ciphertext_of sealed))) None
 unfolding unseal
 unseal-long key nonce aad sealed h =
-    ap (λ b. cond (b && bytes_eq (tag_of sealed) (tag key nonce aad (ciphertext_of sealed))) (Some (encrypted key nonce (ciphertext_of sealed))) None)
+    ap (λ b. cond (b && bytes_eq (tag_of sealed) (tag key nonce aad (ciphertext_of sealed)))
+    (Some (encrypted key nonce (ciphertext_of sealed))) None)
     (le-leb 16 (length sealed) h)
 
 pub unseal_answers : UnsealAnswersAll
@@ -85,7 +94,8 @@ unseal_answers key nonce aad sealed =
       short = unseal-short key nonce aad sealed;
       other_tag = λ differs. elim (cases_lt (length sealed) 16) [
         | inl below ↦ unseal-short key nonce aad sealed below
-        | inr above ↦ unseal-long key nonce aad sealed above ∙ ap answer (other_tag last right (bytes_eq last right) refl differs)
+        | inr above ↦ unseal-long key nonce aad sealed above
+            ∙ ap answer (other_tag last right (bytes_eq last right) refl differs)
       ];
       same_tag = λ above same. unseal-long key nonce aad sealed above ∙ ap answer (same_tag last right same);
     }
@@ -100,3 +110,20 @@ unseal_gives_text key nonce aad text =
     (unseal_answers key nonce aad (c ++ t)).same_tag (omega (arith, length-append c t, length-tag key nonce aad c))
     (back ∙ ap (tag key nonce aad) (sym front))
     ∙ ap (λ s. Some (encrypted key nonce s)) front ∙ ap Some (encrypted-encrypted key nonce text)
+
+pub length-seal : (key nonce aad text : List ℕ) → length (seal key nonce aad text) ≡ length text + 16
+unfolding seal
+length-seal key nonce aad text = omega (
+  arith,
+  length-append (encrypted key nonce text) (tag key nonce aad (encrypted key nonce text)),
+  length-encrypted key nonce text,
+  length-tag key nonce aad (encrypted key nonce text),
+)
+
+-- a sealed text opens to its text
+pub unsealed-sealed_text : SealedTextsOpen
+unfolding sealed_text unsealed
+unsealed-sealed_text key nonce text twelve =
+    ap (λ n. unseal key n [] (drop 12 (sealed_text key nonce text))) (take_at nonce (seal key nonce [] text) 12 twelve)
+    ∙ ap (unseal key nonce []) (drop_at nonce (seal key nonce [] text) 12 twelve)
+    ∙ unseal_gives_text key nonce [] text

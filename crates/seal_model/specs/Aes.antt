@@ -1,5 +1,6 @@
 -- AES-256 (FIPS 197 of 2001). A block is 4 by 4 bytes, written column by column; section numbers are the standard's.
-use Rattle.std.specs.Prelude.{ℕ, zero, suc, ◌+◌, ◌-◌, ◌*◌, ◌/◌, ◌%◌, Bool, true, false, if◌then◌else◌, ◌==◌, nat_lt, List, [], ◌∷◌, ◌++◌, map, reverse, bit_xor, slice_index, slice_index_or}
+use Rattle.std.specs.Prelude.{ℕ, zero, suc, ◌+◌, ◌-◌, ◌*◌, ◌/◌, ◌%◌, Bool, true, false, if◌then◌else◌, ◌==◌, nat_lt}
+use Rattle.std.specs.Prelude.{List, [], ◌∷◌, ◌++◌, map, reverse, bit_xor, slice_index, slice_index_or}
 use Rattle.seal_model.specs.Polynomial.{plus, product, remainder, bit, bits, number_of}
 use Rattle.seal_model.specs.Bytes.{xor_bytes}
 
@@ -68,7 +69,8 @@ mixed_byte a b c d = bit_xor (multiply 2 a) (bit_xor (multiply 3 b) (bit_xor c d
 -- MixColumns (5.1.3)
 unfoldable pub mix_columns : List ℕ → List ℕ
 mix_columns block =
-    block_of (λ r c. mixed_byte (at block r c) (at block ((r + 1) % 4) c) (at block ((r + 2) % 4) c) (at block ((r + 3) % 4) c))
+    block_of (λ r c. mixed_byte (at block r c) (at block ((r + 1) % 4) c) (at block ((r + 2) % 4) c)
+    (at block ((r + 3) % 4) c))
 
 -- word i of a list of words
 abbrev pub word : List (List ℕ) → ℕ → List ℕ
@@ -90,7 +92,8 @@ round_constant i = x_power (i - 1) ∷ 0 ∷ 0 ∷ 0 ∷ []
 -- what word i adds to the word eight before it, from the word t before it (5.2)
 abbrev pub key_step : ℕ → List ℕ → List ℕ
 key_step i t =
-    if i % 8 == 0 then xor_bytes (map s_box (rot_word t)) (round_constant (i / 8)) else (if i % 8 == 4 then map s_box t else t)
+    if i % 8 == 0 then xor_bytes (map s_box (rot_word t)) (round_constant (i / 8))
+    else (if i % 8 == 4 then map s_box t else t)
 
 -- word i of the key schedule, from those before it (5.2)
 unfoldable pub next_word : List (List ℕ) → ℕ → List ℕ
@@ -99,7 +102,8 @@ next_word words i = xor_bytes (word words (i - 8)) (key_step i (word words (i - 
 -- word i of the key (5.2)
 abbrev pub key_word : List ℕ → ℕ → List ℕ
 key_word key i =
-    slice_index key (4 * i) ∷ slice_index key (4 * i + 1) ∷ slice_index key (4 * i + 2) ∷ slice_index key (4 * i + 3) ∷ []
+    slice_index key (4 * i) ∷ slice_index key (4 * i + 1) ∷ slice_index key (4 * i + 2)
+    ∷ slice_index key (4 * i + 3) ∷ []
 
 -- the first n words of the key schedule, of which eight are the key's (5.2)
 unfoldable pub key_schedule : List ℕ → ℕ → List (List ℕ)

@@ -1,5 +1,6 @@
 -- GCM over AES-256 (SP 800-38D), with a nonce of 12 bytes and a tag of 16; section numbers are the standard's.
-use Rattle.std.specs.Prelude.{ℕ, zero, suc, ◌+◌, ◌-◌, ◌*◌, ◌/◌, ◌%◌, ◌^◌, Bool, true, false, if◌then◌else◌, ◌&&◌, nat_le, List, [], ◌∷◌, ◌++◌, map, length, take, drop, replicate, Option, Some, None}
+use Rattle.std.specs.Prelude.{ℕ, zero, suc, ◌+◌, ◌-◌, ◌*◌, ◌/◌, ◌%◌, ◌^◌, Bool, true, false, if◌then◌else◌, ◌&&◌}
+use Rattle.std.specs.Prelude.{nat_le, List, [], ◌∷◌, ◌++◌, map, length, take, drop, replicate, Option, Some, None}
 use Rattle.std.specs.Int.{w32, w64, to_be_bytes}
 use Rattle.std.specs.Str.{bytes_eq}
 use Rattle.seal_model.specs.Polynomial.{add, product, remainder, bits, number_of}

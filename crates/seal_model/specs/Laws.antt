@@ -1,18 +1,49 @@
 -- The laws of the two fields, of the S-box and of sealing.
-use Rattle.std.specs.Prelude.{◌≡◌, ◌≢◌, ℕ, ◌<◌, ◌≤◌, Bool, true, false, List, [], ◌∷◌, ◌++◌, length, replicate, bit_xor, Some, None}
+use Rattle.std.specs.Prelude.{◌≡◌, ◌≢◌, ℕ, ◌<◌, ◌≤◌, Bool, true, false, List, [], ◌∷◌, ◌++◌, length, replicate}
+use Rattle.std.specs.Prelude.{bit_xor, Some, None}
+use Rattle.seal_model.specs.Sealed.{sealed_text, unsealed}
 use Rattle.seal_model.specs.Polynomial.{plus, add, product, remainder, coefficient}
 use Rattle.seal_model.specs.Aes.{multiply, byte_power, inverse, s_box}
-use Rattle.seal_model.specs.Gcm.{block_modulus, bytes_of, field_product, field_one, power_sum, encrypted, tag, tag_of, ciphertext_of, seal, unseal}
+use Rattle.seal_model.specs.Gcm.{block_modulus, bytes_of, field_product, field_one, power_sum, encrypted, tag, tag_of}
+use Rattle.seal_model.specs.Gcm.{ciphertext_of, seal, unseal}
+
+-- a product is the same with its factors in the other order
+abbrev pub Commutative : {A : Type 0} → (A → A → A) → Type 0
+Commutative {A} product = (a b : A) → product a b ≡ product b a
+
+-- a product of three is the same however it is bracketed
+abbrev pub Associative : {A : Type 0} → (A → A → A) → Type 0
+Associative {A} product = (a b c : A) → product (product a b) c ≡ product a (product b c)
+
+-- a product with a sum is the sum of the products
+abbrev pub Distributive : {A : Type 0} → (A → A → A) → (A → A → A) → Type 0
+Distributive {A} product sum = (a b c : A) → product a (sum b c) ≡ sum (product a b) (product a c)
+
+-- products of elements are elements
+abbrev pub IsClosed : {A : Type 0} → (A → Type 0) → (A → A → A) → Type 0
+IsClosed {A} IsElement product = (a b : A) → IsElement (product a b)
+
+-- a factor that leaves each element as it is
+abbrev pub IsOne : {A : Type 0} → (A → Type 0) → (A → A → A) → A → Type 0
+IsOne {A} IsElement product one = (a : A) → IsElement a → product one a ≡ a
+
+-- a byte as a number
+abbrev pub IsByte : ℕ → Type 0
+IsByte a = a < 256
+
+-- a block of 16 bytes as a polynomial
+abbrev pub IsBlock : List Bool → Type 0
+IsBlock p = length p ≡ 128
 
 -- the bytes are a field
 pub record IsByteField : Type 0 where
-  pub closed : (a b : ℕ) → multiply a b < 256
-  pub inverse_closed : (a : ℕ) → inverse a < 256
-  pub commutative : (a b : ℕ) → multiply a b ≡ multiply b a
-  pub associative : (a b c : ℕ) → multiply (multiply a b) c ≡ multiply a (multiply b c)
-  pub distributive : (a b c : ℕ) → multiply a (bit_xor b c) ≡ bit_xor (multiply a b) (multiply a c)
-  pub has_one : (a : ℕ) → a < 256 → multiply 1 a ≡ a
-  pub has_inverses : (a : ℕ) → a < 256 → a ≢ 0 → multiply a (inverse a) ≡ 1
+  pub closed : IsClosed IsByte multiply
+  pub inverse_closed : (a : ℕ) → IsByte (inverse a)
+  pub commutative : Commutative multiply
+  pub associative : Associative multiply
+  pub distributive : Distributive multiply bit_xor
+  pub has_one : IsOne IsByte multiply 1
+  pub has_inverses : (a : ℕ) → IsByte a → a ≢ 0 → multiply a (inverse a) ≡ 1
   pub inverse_of_zero : inverse 0 ≡ 0
 
 -- the inverse is a power: the field has 256 elements
@@ -26,10 +57,10 @@ pub record ByteProducts : Type 0 where
 
 -- the polynomials below x ^ 128 are a commutative ring with one
 pub record IsBlockRing : Type 0 where
-  pub commutative : (p q : List Bool) → field_product p q ≡ field_product q p
-  pub associative : (p q r : List Bool) → field_product (field_product p q) r ≡ field_product p (field_product q r)
-  pub distributive : (p q r : List Bool) → field_product p (add q r) ≡ add (field_product p q) (field_product p r)
-  pub has_one : (p : List Bool) → length p ≡ 128 → field_product field_one p ≡ p
+  pub commutative : Commutative field_product
+  pub associative : Associative field_product
+  pub distributive : Distributive field_product add
+  pub has_one : IsOne IsBlock field_product field_one
 
 -- the modulus of blocks is the block that the standard calls R (SP 800-38D, 6.3)
 abbrev pub BlockModulusIsR : Type 0
@@ -44,7 +75,8 @@ pub record HashGoesByBlocks : Type 0 where
 -- r is the remainder of p modulo x ^ n + low, where low has n coefficients: it has n too, and p less r is a multiple
 pub record IsRemainder (low p r : List Bool) : Type 0 where
   pub short : length r ≡ length low
-  pub rest : (q : List Bool) × ((k : ℕ) → coefficient p k ≡ plus (coefficient r k) (coefficient (product q (low ++ true ∷ [])) k))
+  pub rest : (q : List Bool)
+      × ((k : ℕ) → coefficient p k ≡ plus (coefficient r k) (coefficient (product q (low ++ true ∷ [])) k))
 
 -- `remainder` is the remainder
 abbrev pub RemainderIsRemainder : Type 0
@@ -71,6 +103,10 @@ UnsealAnswersAll = (key nonce aad sealed : List ℕ) → UnsealAnswers key nonce
 -- opening a sealed text gives the text
 abbrev pub UnsealGivesText : Type 0
 UnsealGivesText = (key nonce aad text : List ℕ) → unseal key nonce aad (seal key nonce aad text) ≡ Some text
+
+-- so does a sealed text that begins with its nonce of 12 bytes
+abbrev pub SealedTextsOpen : Type 0
+SealedTextsOpen = (key nonce text : List ℕ) → length nonce ≡ 12 → unsealed key (sealed_text key nonce text) ≡ Some text
 
 -- and what opens was sealed: from that text, under that key and nonce, with that additional data
 abbrev pub OnlySealedOpens : Type 0

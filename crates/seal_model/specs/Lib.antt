@@ -4,3 +4,4 @@ pub mod Aes
 pub mod Gcm
 pub mod Laws
 pub mod Lanes
+pub mod Sealed

@@ -1,5 +1,6 @@
 -- Polynomials over the field of two elements. A polynomial is the list of its coefficients, that of x ^ 0 first.
-use Rattle.std.specs.Prelude.{ℕ, zero, suc, ◌+◌, ◌/◌, ◌%◌, ◌^◌, Bool, true, false, not, if◌then◌else◌, ◌==◌, List, [], ◌∷◌, map, length, slice_index_or}
+use Rattle.std.specs.Prelude.{ℕ, zero, suc, ◌+◌, ◌/◌, ◌%◌, ◌^◌, Bool, true, false, not, if◌then◌else◌, ◌==◌, List, []}
+use Rattle.std.specs.Prelude.{◌∷◌, map, length, slice_index_or}
 
 -- the sum of two coefficients
 abbrev pub plus : Bool → Bool → Bool

@@ -1,10 +1,11 @@
-//! AES-256 (FIPS 197 of 2001) and GCM (SP 800-38D, with a nonce of 96 bits and a tag of 128) as definitions, in `specs/`.
+//! AES-256 (FIPS 197 of 2001) and GCM (SP 800-38D, nonces of 96 bits, tags of 128) as definitions, in `specs/`.
 //!
 //! The crate has no code that a program runs. Each function here carries a law of the definitions on its contract.
 #![tactic(auto)]
 
-ghost use Rattle.seal_model.specs.Laws.{IsByteField, InverseIsPower, ByteProducts, IsBlockRing, BlockModulusIsR, HashGoesByBlocks};
-ghost use Rattle.seal_model.specs.Laws.{RemainderIsRemainder, SBoxValues, UnsealAnswersAll, UnsealGivesText, OnlySealedOpens};
+ghost use Rattle.seal_model.specs.Laws.{IsByteField, InverseIsPower, ByteProducts, IsBlockRing};
+ghost use Rattle.seal_model.specs.Laws.{BlockModulusIsR, HashGoesByBlocks, RemainderIsRemainder};
+ghost use Rattle.seal_model.specs.Laws.{SBoxValues, UnsealAnswersAll, UnsealGivesText, SealedTextsOpen, OnlySealedOpens};
 
 /// `remainder` leaves the remainder of a polynomial by division.
 pub fn remainder_is_remainder()
@@ -54,6 +55,11 @@ pub fn unseal_answers()
 /// Opening a sealed text gives the text.
 pub fn unseal_gives_text()
     ensures { UnsealGivesText }
+{}
+
+/// A sealed text opens to its text, where its nonce has 12 bytes.
+pub fn sealed_texts_open()
+    ensures { SealedTextsOpen }
 {}
 
 /// What opens was sealed, from the text that it opens to.

@@ -1,21 +1,20 @@
--- Finite maps: two insertions of one key, the columns of a map, and the entries of the empty one.
-use Rattle.std.proofs.Common.{◌≡◌, List, [], ◌∷◌, length, arith, Bool, true, false, T, refl, sym, ap, ◌∙◌, subst}
+-- Finite maps: two insertions of one key, a key that was put in, the columns of a map, and the entries of the empty
+-- one.
+use Rattle.std.proofs.Common.{◌≡◌, List, [], ◌∷◌, length, arith, refl, sym, ap, ◌∙◌, subst}
+use Rattle.std.specs.Prelude.{IsSome, is_some}
 use Rattle.std.specs.declared.cmp.Ordering.{Ordering}
 use Rattle.std.specs.Cmp.{IsTotalOrder}
 use Rattle.std.specs.FinMap as map
 use Rattle.std.specs.FinMap.{IsAntisymmetric, from_sorted, same_entries_map, entries_sorted}
 use Rattle.std.specs.List.{zip}
 use Rattle.std.proofs.lemmas.List.{length-map}
+use Rattle.tree_model.proofs.Logic.{true_from_T}
 use Rattle.tree_model.proofs.Maps.{same_at, get-insert_same, get-insert_other}
 use Rattle.sorted_map.specs.Rows.{keys, values, IsAligned, IsSorted}
 
 zip-columns : {K X : Type 0} (rows : List (K × X)) → zip (keys rows) (values rows) ≡ rows
 zip-columns [] = refl
 zip-columns (row ∷ rows) = ap (λ others. row ∷ others) (zip-columns rows)
-
-is-true : (b : Bool) → T b → b ≡ true
-is-true true h = refl
-is-true false h = absurd h
 
 no_rows : {X : Type 0} (rows : List X) → length rows ≡ 0 → rows ≡ []
 no_rows [] is = refl
@@ -34,13 +33,18 @@ module _ {K X : Type 0} {R : K → K → Ordering} where
         (λ q differ. get-insert_other total exact (map.insert m k v) k w q differ
         ∙ get-insert_other total exact m k v q differ ∙ sym (get-insert_other total exact m k w q differ))
 
+    -- a key that was put in is there
+    pub there-insert : (m m' : map.FinMap R X) (k : K) (v : X) → m' ≡ map.insert m k v → IsSome (map.get m' k)
+    there-insert m m' k v is =
+        ap (λ edited. is_some (map.get edited k)) is ∙ ap is_some (get-insert_same total exact m k v)
+
   -- the keys and the values of a map are the columns of that map
   pub aligned-columns : (m : map.FinMap R X) → IsAligned R (map.keys m) (map.values m)
   aligned-columns m =
       let rows = map.entries m in
       record {
         lengths = length-map rows _ ∙ sym (length-map rows _);
-        sorted = subst (IsSorted R) (sym (zip-columns rows)) (is-true _ (entries_sorted m));
+        sorted = subst (IsSorted R) (sym (zip-columns rows)) (true_from_T _ (entries_sorted m));
       }
 
   pub from-columns : (m : map.FinMap R X) → from_sorted {R = R} (zip (map.keys m) (map.values m)) ≡ m

@@ -1,35 +1,24 @@
 -- The first row whose key comes after another is the first key of the map after it.
 use Rattle.std.proofs.Common.{◌≡◌, ◌⊎◌, inl, inr, Bool, true, false, cond, List, [], ◌∷◌, refl, sym, ap, ◌∙◌, subst}
-use Rattle.std.specs.Prelude.{Option, Some, None, IsSome, ◌&&◌}
+use Rattle.std.specs.Prelude.{Option, Some, None, IsSome}
 use Rattle.std.specs.declared.cmp.Ordering.{Ordering}
-use Rattle.std.specs.declared.cmp.Ordering.TheVariants.{Less, Equal, Greater}
+use Rattle.std.specs.declared.cmp.Ordering.TheVariants.{Less, Equal}
 use Rattle.std.specs.Ordering.{is_lt, eq_by_cmp}
 use Rattle.std.specs.Cmp.{IsTotalOrder, alike_right, tied_back}
 use Rattle.std.specs.FinMap.{IsAntisymmetric, from_sorted}
 use Rattle.std.specs.FinMap.Entries.{find, below_all}
 use Rattle.std.specs.List.{find as find_first}
-use Rattle.tree_model.proofs.Maps.{equal, tied}
+use Rattle.std.proofs.lemmas.Bool.{and_parts}
+use Rattle.tree_model.proofs.Logic.{is_less, is_equal}
+use Rattle.tree_model.proofs.Maps.{tied}
 use Rattle.sorted_map.specs.Maps.{IsAfter, IsNextKey}
 use Rattle.sorted_map.specs.Rows.{keys, IsSorted, is_after}
 use Rattle.sorted_map.proofs.Rows.{get-rows}
 
-less : (r : Ordering) → is_lt r ≡ true → r ≡ Less
-less Less e = refl
-less Equal e = cc
-less Greater e = cc
-
-first : (a b : Bool) → (a && b) ≡ true → a ≡ true
-first true b e = refl
-first false b e = e
-
-second : (a b : Bool) → (a && b) ≡ true → b ≡ true
-second true b e = e
-second false b e = cc
-
 module _ {K : Type 0} (R : K → K → Ordering) where
   comes-after : (after : Option K) (key : K) → is_after R after key ≡ true → IsAfter R after key
   comes-after None key e = tt
-  comes-after (Some a) key e = less (R a key) e
+  comes-after (Some a) key e = is_less (R a key) e
 
   after-comes : (after : Option K) (key : K) → IsAfter R after key → is_after R after key ≡ true
   after-comes None key h = refl
@@ -47,8 +36,9 @@ module _ {K V : Type 0} {R : K → K → Ordering} (total : IsTotalOrder R) (exa
   below-find low key (row ∷ rows) below there =
       elim (eq_by_cmp R key row.0) as (λ t. eq_by_cmp R key row.0 ≡ t → IsSome (cond t (Some row.1) (find R key rows))
       → R low key ≡ Less) [
-        | true ↦ λ e h. alike_right total key row.0 low (equal (R key row.0) e) ∙ less (R low row.0) (first _ _ below)
-        | false ↦ λ e h. below-find low key rows (second _ _ below) h
+        | true ↦ λ e h. alike_right total key row.0 low (is_equal (R key row.0) e)
+            ∙ is_less (R low row.0) (and_parts _ _ below).0
+        | false ↦ λ e h. below-find low key rows (and_parts _ _ below).1 h
       ] refl there
 
   next-there : (after : Option K) (next : K) (rows : List (K × V))
@@ -84,16 +74,16 @@ module _ {K V : Type 0} {R : K → K → Ordering} (total : IsTotalOrder R) (exa
       → IsLeast R key (cond t (Some row.0) (find_first (is_after R after) (keys rows)))) [
         | true ↦ λ e. elim (eq_by_cmp R key row.0) as (λ t. eq_by_cmp R key row.0 ≡ t
             → IsSome (cond t (Some row.1) (find R key rows)) → IsLeast R key (Some row.0)) [
-              | true ↦ λ same h. inr (tied_back total key row.0 (equal (R key row.0) same))
-              | false ↦ λ apart h. inl (below-find row.0 key rows (first _ _ sorted) h)
+              | true ↦ λ same h. inr (tied_back total key row.0 (is_equal (R key row.0) same))
+              | false ↦ λ apart h. inl (below-find row.0 key rows (and_parts _ _ sorted).0 h)
             ] refl there
         | false ↦ λ e. elim (eq_by_cmp R key row.0) as (λ t. eq_by_cmp R key row.0 ≡ t
             → IsSome (cond t (Some row.1) (find R key rows))
             → IsLeast R key (find_first (is_after R after) (keys rows))) [
               | true ↦ λ same h.
-                  let is : key ≡ row.0 = exact key row.0 (equal (R key row.0) same) in
+                  let is : key ≡ row.0 = exact key row.0 (is_equal (R key row.0) same) in
                   absurd (differ (sym (subst (λ k. is_after R after k ≡ true) is comes) ∙ e))
-              | false ↦ λ apart h. next-least after key rows (second _ _ sorted) h comes
+              | false ↦ λ apart h. next-least after key rows (and_parts _ _ sorted).1 h comes
             ] refl there
       ] refl
     where

@@ -1,5 +1,5 @@
 -- Sorted rows as a finite map: what the list functions of the contracts do to it.
-use Rattle.std.proofs.Common.{◌≡◌, Bool, true, false, cond, T, List, length, refl, sym, ap, ◌∙◌, subst}
+use Rattle.std.proofs.Common.{◌≡◌, Bool, true, false, cond, List, length, refl, sym, ap, ◌∙◌}
 use Rattle.std.specs.Prelude.{Option, None, not}
 use Rattle.std.specs.declared.cmp.Ordering.{Ordering}
 use Rattle.std.specs.Ordering.{is_eq, eq_by_cmp}
@@ -7,21 +7,18 @@ use Rattle.std.specs.Cmp.{IsTotalOrder, eq_by_cmp_equiv}
 use Rattle.std.specs.FinMap as map
 use Rattle.std.specs.FinMap.{IsAntisymmetric, from_sorted, same_map, same_entries_map}
 use Rattle.std.specs.FinMap.Entries.{find, put, find-where_key}
+use Rattle.std.proofs.lemmas.Float.{T_from_true}
 use Rattle.std.proofs.lemmas.Cmp.{alike_right}
 use Rattle.sorted_map.specs.Rows.{keys, values, IsSorted, without}
 use Rattle.sorted_map.proofs.Places.{sorted-put, sorted-without}
 
-holds : (b : Bool) → b ≡ true → T b
-holds true e = tt
-holds false e = subst T (sym e) tt
-
 module _ {K V : Type 0} (R : K → K → Ordering) (rows : List (K × V)) (sorted : IsSorted R rows) where
   pub entries-rows : map.entries (from_sorted {R = R} rows) ≡ rows
-  entries-rows = map.entries-from_sorted R rows (holds _ sorted)
+  entries-rows = map.entries-from_sorted R rows (T_from_true _ sorted)
 
   -- a look-up
   pub get-rows : (key : K) → map.get (from_sorted {R = R} rows) key ≡ find R key rows
-  get-rows key = map.get-from_sorted R rows key (holds _ sorted)
+  get-rows key = map.get-from_sorted R rows key (T_from_true _ sorted)
 
   pub keys-rows : map.keys (from_sorted {R = R} rows) ≡ keys rows
   keys-rows = ap keys entries-rows

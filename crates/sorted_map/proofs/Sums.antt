@@ -1,6 +1,6 @@
 -- Sums over the values of a finite map: what an insertion and a removal add and take.
-use Rattle.std.proofs.Common.{◌≡◌, ℕ, ◌+◌, Bool, true, false, cond, T, List, [], ◌∷◌, refl, sym, ap, ◌∙◌, subst, arith}
-use Rattle.std.specs.Prelude.{Option, Some, None, not, ◌&&◌, map as map_list}
+use Rattle.std.proofs.Common.{◌≡◌, ℕ, ◌+◌, true, cond, T, List, [], ◌∷◌, refl, sym, ap, ◌∙◌, subst, arith}
+use Rattle.std.specs.Prelude.{Option, Some, None, not, map as map_list}
 use Rattle.std.specs.declared.cmp.Ordering.{Ordering}
 use Rattle.std.specs.declared.cmp.Ordering.TheVariants.{Less, Equal, Greater}
 use Rattle.std.specs.Ordering.{is_lt, is_eq, eq_by_cmp}
@@ -8,22 +8,10 @@ use Rattle.std.specs.Cmp.{IsTotalOrder}
 use Rattle.std.specs.FinMap as map
 use Rattle.std.specs.FinMap.{IsAntisymmetric, from_sorted, same_entries_map, entries_sorted}
 use Rattle.std.specs.FinMap.Entries.{find, put, by_order, is_sorted, below_all, is_sorted-where_key}
+use Rattle.tree_model.proofs.Logic.{true_from_T, T_both, T_first, T_second, T_less}
 use Rattle.sorted_map.specs.Sums.{total_by}
 use Rattle.sorted_map.proofs.Rows.{remove-rows}
 use Rattle.sorted_map.specs.Rows.{without}
-
-first : (a b : Bool) → T (a && b) → T a
-first true b p = tt
-first false b p = p
-
-second : (a b : Bool) → T (a && b) → T b
-second true b p = p
-second false b p = absurd p
-
-less : (r : Ordering) → T (is_lt r) → r ≡ Less
-less Less p = refl
-less Equal p = absurd p
-less Greater p = absurd p
 
 -- what the value of an entry adds, where it is there
 abbrev pub worth : {X : Type 0} → (X → ℕ) → Option X → ℕ
@@ -34,28 +22,20 @@ module _ {K X : Type 0} {R : K → K → Ordering} (total : IsTotalOrder R) (f :
   absent-below : (k : K) (es : List (K × X)) → T (below_all R k es) → find R k es ≡ None
   absent-below k [] below = refl
   absent-below k (e ∷ es) below =
-      ap (λ r. cond (is_eq r) (Some e.1) (find R k es)) (less (R k e.0) (first _ _ below))
-      ∙ absent-below k es (second _ _ below)
+      ap (λ r. cond (is_eq r) (Some e.1) (find R k es)) (T_less (R k e.0) (T_first _ _ below))
+      ∙ absent-below k es (T_second _ _ below)
 
   below-less : (k x : K) (es : List (K × X)) → R k x ≡ Less → T (below_all R x es) → T (below_all R k es)
   below-less k x [] p below = tt
   below-less k x (e ∷ es) p below =
-      let comes = total.trans k x e.0 p (less (R x e.0) (first _ _ below)) in
-      both _ _ (subst (λ r. T (is_lt r)) (sym comes) tt) (below-less k x es p (second _ _ below))
-    where
-      both : (a b : Bool) → T a → T b → T (a && b)
-      both true b p q = q
-      both false b p q = p
+      let comes = total.trans k x e.0 p (T_less (R x e.0) (T_first _ _ below)) in
+      T_both _ _ (subst (λ r. T (is_lt r)) (sym comes) tt) (below-less k x es p (T_second _ _ below))
 
   below-equal : (k x : K) (es : List (K × X)) → R k x ≡ Equal → T (below_all R x es) → T (below_all R k es)
   below-equal k x [] p below = tt
   below-equal k x (e ∷ es) p below =
-      let comes = subst (λ r. T (is_lt r)) (sym (total.congr k x e.0 p)) (first _ _ below) in
-      both _ _ comes (below-equal k x es p (second _ _ below))
-    where
-      both : (a b : Bool) → T a → T b → T (a && b)
-      both true b p q = q
-      both false b p q = p
+      let comes = subst (λ r. T (is_lt r)) (sym (total.congr k x e.0 p)) (T_first _ _ below) in
+      T_both _ _ comes (below-equal k x es p (T_second _ _ below))
 
   sum-put : (k : K) (v : X) (es : List (K × X)) → T (is_sorted R es)
       → total_by (λ e. f e.1) (put R k v es) + worth f (find R k es) ≡ total_by (λ e. f e.1) es + f v
@@ -65,19 +45,19 @@ module _ {K X : Type 0} {R : K → K → Ordering} (total : IsTotalOrder R) (f :
       → total_by (λ x. f x.1) (by_order r ((k, v) ∷ e ∷ es) ((e.0, v) ∷ es) (e ∷ put R k v es))
       + worth f (cond (is_eq r) (Some e.1) (find R k es)) ≡ total_by (λ x. f x.1) (e ∷ es) + f v) [
         | Less ↦ λ p.
-            let none = ap (worth f) (absent-below k es (below-less k e.0 es p (first _ _ sorted))) in
+            let none = ap (worth f) (absent-below k es (below-less k e.0 es p (T_first _ _ sorted))) in
             omega (arith, none)
         | Equal ↦ λ p. omega arith
-        | Greater ↦ λ p. let rest = sum-put k v es (second _ _ sorted) in omega (arith, rest)
+        | Greater ↦ λ p. let rest = sum-put k v es (T_second _ _ sorted) in omega (arith, rest)
       ] refl
 
   sum-keep : (k : K) (es : List (K × X)) → T (below_all R k es)
       → total_by (λ e. f e.1) (without R k es) ≡ total_by (λ e. f e.1) es
   sum-keep k [] below = refl
   sum-keep k (e ∷ es) below =
-      let rest = sum-keep k es (second _ _ below) in
+      let rest = sum-keep k es (T_second _ _ below) in
       ap (λ r. total_by (λ x. f x.1) (cond (not (is_eq r)) (e ∷ without R k es) (without R k es)))
-      (less (R k e.0) (first _ _ below)) ∙ ap (λ n. f e.1 + n) rest
+      (T_less (R k e.0) (T_first _ _ below)) ∙ ap (λ n. f e.1 + n) rest
 
   sum-without : (k : K) (es : List (K × X)) → T (is_sorted R es)
       → total_by (λ e. f e.1) (without R k es) + worth f (find R k es) ≡ total_by (λ e. f e.1) es
@@ -86,9 +66,9 @@ module _ {K X : Type 0} {R : K → K → Ordering} (total : IsTotalOrder R) (f :
       elim (R k e.0) as (λ r. R k e.0 ≡ r
       → total_by (λ x. f x.1) (cond (not (is_eq r)) (e ∷ without R k es) (without R k es))
       + worth f (cond (is_eq r) (Some e.1) (find R k es)) ≡ total_by (λ x. f x.1) (e ∷ es)) [
-        | Less ↦ λ p. let rest = sum-without k es (second _ _ sorted) in omega (arith, rest)
-        | Equal ↦ λ p. let rest = sum-keep k es (below-equal k e.0 es p (first _ _ sorted)) in omega (arith, rest)
-        | Greater ↦ λ p. let rest = sum-without k es (second _ _ sorted) in omega (arith, rest)
+        | Less ↦ λ p. let rest = sum-without k es (T_second _ _ sorted) in omega (arith, rest)
+        | Equal ↦ λ p. let rest = sum-keep k es (below-equal k e.0 es p (T_first _ _ sorted)) in omega (arith, rest)
+        | Greater ↦ λ p. let rest = sum-without k es (T_second _ _ sorted) in omega (arith, rest)
       ] refl
 
   sum-values : (es : List (K × X)) → total_by f (map_list (λ e. e.1) es) ≡ total_by (λ e. f e.1) es
@@ -113,7 +93,7 @@ module _ {K X : Type 0} {R : K → K → Ordering} (total : IsTotalOrder R) (f :
       let rows = map.entries m in
       let back : map.entries (from_sorted {R = R} rows) ≡ rows = map.entries-from_sorted R rows (entries_sorted m) in
       let is_m : m ≡ from_sorted rows = same_entries_map m (from_sorted rows) (sym back) in
-      let sorted : is_sorted R rows ≡ true = true_of (is_sorted R rows) (entries_sorted m) in
+      let sorted : is_sorted R rows ≡ true = true_from_T (is_sorted R rows) (entries_sorted m) in
       let fewer = is_sorted-where_key R (λ other. not (eq_by_cmp R k other)) rows (entries_sorted m) in
       let removed : map.entries (map.remove m k) ≡ without R k rows = ap (λ n. map.entries (map.remove n k)) is_m
       ∙ ap map.entries (sym (remove-rows total rows sorted exact k))
@@ -123,7 +103,3 @@ module _ {K X : Type 0} {R : K → K → Ordering} (total : IsTotalOrder R) (f :
       let all = sum-values rows in
       let found = ap (worth f) (map.get-entries m k) in
       omega (arith, entries, taken, all, found)
-    where
-      true_of : (b : Bool) → T b → b ≡ true
-      true_of true p = refl
-      true_of false p = absurd p

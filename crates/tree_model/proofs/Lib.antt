@@ -1,4 +1,5 @@
 pub mod Images
+pub mod Logic
 pub mod Maps
 pub mod Parts
 pub mod Slots

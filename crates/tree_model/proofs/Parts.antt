@@ -1,4 +1,5 @@
--- A user's part after an operation of the user's, after one of another user's, and where an operation doesn't touch it.
+-- A user's part after an operation of the user's, after one of another user's, and where an operation doesn't touch
+-- it.
 use Rattle.std.proofs.Common.{◌≡◌, ◌≢◌, ℕ, true, false, cond, refl, ap, ◌∙◌, inl, inr, eq-eqb}
 use Rattle.std.specs.Prelude.{◌&&◌, ◌||◌, Bool, Option, Some, None}
 use Rattle.std.specs.Cmp.{nat_cmp_total}
@@ -10,17 +11,21 @@ use Rattle.tree_model.specs.declared.places.Slot.TheVariants.{Current, Cx}
 use Rattle.tree_model.specs.declared.sites.Site.{Site}
 use Rattle.tree_model.specs.declared.sites.Site.TheVariants.{De, Ce, Temp}
 use Rattle.tree_model.specs.declared.sites.LocalOp.{LocalOp}
-use Rattle.tree_model.specs.declared.sites.LocalOp.TheVariants.{MakeDir, Write, RenameFile, RenameDir, RemoveFile, RemoveDir}
+use Rattle.tree_model.specs.declared.sites.LocalOp.TheVariants.{MakeDir, Write, RenameFile}
+use Rattle.tree_model.specs.declared.sites.LocalOp.TheVariants.{RenameDir, RemoveFile, RemoveDir}
 use Rattle.tree_model.specs.declared.ops.Fill.{Fill}
 use Rattle.tree_model.specs.declared.ops.Fill.TheVariants.{Same, Bytes}
 use Rattle.tree_model.specs.Order.{place_cmp, place_total, place_exact}
 use Rattle.tree_model.specs.Dir.{Files}
-use Rattle.tree_model.specs.Tree.{Tree, if_there, after_op, kind_of, kind_if, Create, Add, Settle, user_of, renamed_file}
+use Rattle.tree_model.specs.Tree.{Tree, if_there, after_op, kind_of, kind_if}
+use Rattle.tree_model.specs.Tree.{Create, Add, Settle, user_of, renamed_file}
 use Rattle.tree_model.specs.Touch.{IsOf}
 use Rattle.tree_model.specs.Disk.{filled}
 use Rattle.tree_model.specs.Sites.{place_of, site_of, op_of, user_of_op, local_op, same_site, touches}
-use Rattle.tree_model.specs.Parts.{Part, part_of, set, at_site, after_local, filled_local, has_device, local_kind, IsOwnOp}
-use Rattle.tree_model.proofs.Maps.{equal, tied}
+use Rattle.tree_model.specs.Parts.{Part, part_of, set, at_site, after_local}
+use Rattle.tree_model.specs.Parts.{filled_local, has_device, local_kind, IsOwnOp}
+use Rattle.tree_model.proofs.Logic.{is_equal}
+use Rattle.tree_model.proofs.Maps.{tied}
 use Rattle.tree_model.proofs.Touch.{same-other}
 
 pub fun_ext : {A B : Type 0} (f g : A → B) → ((a : A) → f a ≡ g a) → f ≡ g
@@ -34,7 +39,7 @@ same_place user De Temp = refl
 same_place user (Ce slot) De = refl
 same_place user (Ce slot) (Ce other) =
     let same : nat_cmp user user ≡ Equal =
-    equal (nat_cmp user user) (tied nat_cmp_total nat_cmp-IsAntisymmetric user user refl) in rw same refl
+    is_equal (nat_cmp user user) (tied nat_cmp_total nat_cmp-IsAntisymmetric user user refl) in rw same refl
 same_place user (Ce slot) Temp = refl
 same_place user Temp De = refl
 same_place user Temp (Ce slot) = refl
@@ -43,7 +48,8 @@ same_place user Temp Temp = tied place_total place_exact (place_of user Temp) (p
 module _ (tree : Tree) (user : ℕ) where
   part-insert : (site : Site) (files : Files)
       → part_of (map.insert tree (place_of user site) files) user ≡ set (part_of tree user) site (Some files)
-  part-insert site files = fun_ext _ _ (λ at. map.get-insert place_total tree (place_of user site) files (place_of user at)
+  part-insert site files =
+      fun_ext _ _ (λ at. map.get-insert place_total tree (place_of user site) files (place_of user at)
       ∙ ap (λ t. cond t (Some files) (map.get tree (place_of user at))) (same_place user at site))
 
   part-remove : (site : Site) → part_of (map.remove tree (place_of user site)) user ≡ set (part_of tree user) site None
@@ -51,7 +57,8 @@ module _ (tree : Tree) (user : ℕ) where
       ∙ ap (λ t. cond t None (map.get tree (place_of user at))) (same_place user at site))
 
   part-at : (site : Site) (change : Files → Files)
-      → part_of (if_there (map.get tree (place_of user site)) tree (λ files. map.insert tree (place_of user site) (change files))) user
+      → part_of (if_there (map.get tree (place_of user site)) tree
+      (λ files. map.insert tree (place_of user site) (change files))) user
       ≡ at_site (part_of tree user) site change
   part-at site change =
       elim (map.get tree (place_of user site)) as (λ found.
@@ -69,7 +76,8 @@ part-own tree user (Write site file bytes) = part-at tree user site (λ files. m
 part-own tree user (RenameFile site from to) = part-at tree user site (λ files. renamed_file files from to)
 part-own tree user (RenameDir from to) =
     elim (map.get tree (place_of user from)) as (λ found.
-    part_of (if_there found tree (λ files. map.insert (map.remove tree (place_of user from)) (place_of user to) files)) user
+    part_of (if_there found tree
+    (λ files. map.insert (map.remove tree (place_of user from)) (place_of user to) files)) user
     ≡ if_there found (part_of tree user) (λ files. set (set (part_of tree user) from None) to (Some files))) [
       | None ↦ refl
       | Some files ↦ part-insert (map.remove tree (place_of user from)) user to files
@@ -102,7 +110,8 @@ local-op user (MakeDir site) = ap MakeDir (site-place user site)
 local-op user (Write site file bytes) = ap (λ s. Write s file bytes) (site-place user site)
 local-op user (RenameFile site from to) = ap (λ s. RenameFile s from to) (site-place user site)
 local-op user (RenameDir from to) =
-    ap (λ s. RenameDir s (site_of (place_of user to))) (site-place user from) ∙ ap (RenameDir from) (site-place user to)
+    ap (λ s. RenameDir s (site_of (place_of user to))) (site-place user from)
+    ∙ ap (RenameDir from) (site-place user to)
 local-op user (RemoveFile site file) = ap (λ s. RemoveFile s file) (site-place user site)
 local-op user (RemoveDir site) = ap RemoveDir (site-place user site)
 
@@ -112,7 +121,8 @@ of_user user (MakeDir site) = record { own = λ place at. ap user_of at ∙ user
 of_user user (Write site file bytes) = record { own = λ place at. ap user_of at ∙ user-place user site }
 of_user user (RenameFile site from to) = record { own = λ place at. ap user_of at ∙ user-place user site }
 of_user user (RenameDir from to) = record {
-  own = λ place at. elim at [ inl e ↦ ap user_of e ∙ user-place user from | inr e ↦ ap user_of e ∙ user-place user to ];
+  own =
+      λ place at. elim at [ inl e ↦ ap user_of e ∙ user-place user from | inr e ↦ ap user_of e ∙ user-place user to ];
 }
 of_user user (RemoveFile site file) = record { own = λ place at. ap user_of at ∙ user-place user site }
 of_user user (RemoveDir site) = record { own = λ place at. ap user_of at ∙ user-place user site }
@@ -121,10 +131,12 @@ of_user user (RemoveDir site) = record { own = λ place at. ap user_of at ∙ us
 pub part-other : (tree : Tree) (user other : ℕ) (op : LocalOp) → other ≢ user
     → part_of (after_op tree (op_of user op)) other ≡ part_of tree other
 part-other tree user other op differ = fun_ext _ _ (λ site.
-    (same-other user other tree (op_of user op) (of_user user op) differ).same (place_of other site) (user-place other site))
+    (same-other user other tree (op_of user op) (of_user user op) differ).same
+    (place_of other site) (user-place other site))
 
 -- a fill of a user's operation is one of its local operation
-pub filled-op_of : (user : ℕ) (fill : Fill) (op : LocalOp) → filled fill (op_of user op) ≡ op_of user (filled_local fill op)
+pub filled-op_of : (user : ℕ) (fill : Fill) (op : LocalOp)
+    → filled fill (op_of user op) ≡ op_of user (filled_local fill op)
 filled-op_of user Same op = refl
 filled-op_of user (Bytes other) (MakeDir site) = refl
 filled-op_of user (Bytes other) (Write site file bytes) = refl
@@ -134,7 +146,8 @@ filled-op_of user (Bytes other) (RemoveFile site file) = refl
 filled-op_of user (Bytes other) (RemoveDir site) = refl
 
 -- the change that an operation makes shows in the part
-pub kind-own : (tree : Tree) (user : ℕ) (op : LocalOp) → kind_of tree (op_of user op) ≡ local_kind (part_of tree user) op
+pub kind-own : (tree : Tree) (user : ℕ) (op : LocalOp)
+    → kind_of tree (op_of user op) ≡ local_kind (part_of tree user) op
 kind-own tree user (MakeDir site) = refl
 kind-own tree user (Write site file bytes) = refl
 kind-own tree user (RenameFile site from to) = refl
@@ -164,7 +177,8 @@ own_op tree user op = record {
 
 -- the same where a stop leaves the operation with a fill
 pub part-own_filled : (tree : Tree) (user : ℕ) (fill : Fill) (op : LocalOp)
-    → part_of (after_op tree (filled fill (op_of user op))) user ≡ after_local (part_of tree user) (filled_local fill op)
+    → part_of (after_op tree (filled fill (op_of user op))) user
+    ≡ after_local (part_of tree user) (filled_local fill op)
 part-own_filled tree user fill op =
     ap (λ o. part_of (after_op tree o) user) (filled-op_of user fill op) ∙ part-own tree user (filled_local fill op)
 
@@ -175,7 +189,8 @@ part-other_filled tree user other fill op differ =
     ∙ part-other tree user other (filled_local fill op) differ
 
 -- a fill makes no other change, and one fill of another is a fill
-pub filled-kind : (part : Part) (fill : Fill) (op : LocalOp) → local_kind part (filled_local fill op) ≡ local_kind part op
+pub filled-kind : (part : Part) (fill : Fill) (op : LocalOp)
+    → local_kind part (filled_local fill op) ≡ local_kind part op
 filled-kind part Same op = refl
 filled-kind part (Bytes other) (MakeDir site) = refl
 filled-kind part (Bytes other) (Write site file bytes) = refl
@@ -212,7 +227,8 @@ frame-op part (MakeDir site) at apart = frame-set part at site _ apart
 frame-op part (Write site file bytes) at apart = frame-at part at site _ apart
 frame-op part (RenameFile site from to) at apart = frame-at part at site _ apart
 frame-op part (RenameDir from to) at apart =
-    elim (part from) as (λ found. if_there found part (λ files. set (set part from None) to (Some files)) at ≡ part at) [
+    elim (part from) as (λ found. if_there found part (λ files. set (set part from None) to (Some files)) at
+    ≡ part at) [
       | None ↦ refl
       | Some files ↦ frame-set (set part from None) at to _ (second (same_site at from) (same_site at to) apart)
           ∙ frame-set part at from _ (first (same_site at from) (same_site at to) apart)

@@ -10,5 +10,6 @@ use Rattle.tree_model.specs.Disk.{Disk, with_op}
 -- a write that failed leaves any bytes, as a write of those
 abbrev pub IsWritten : Disk → Disk → Place → FileName → List ℕ → Result (Unit {0}) DevFault → Type 0
 IsWritten before after place file bytes (Ok done) = after ≡ with_op before (Write place file bytes)
-IsWritten before after place file bytes (Err Failed) = (other : List ℕ) × (after ≡ with_op before (Write place file other))
+IsWritten before after place file bytes (Err Failed) =
+    (other : List ℕ) × (after ≡ with_op before (Write place file other))
 IsWritten before after place file bytes (Err NoMemory) = after ≡ before

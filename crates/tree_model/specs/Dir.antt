@@ -3,7 +3,8 @@ use Rattle.std.specs.Prelude.{◌≡◌, ℕ, ◌≤◌, List, [], ◌∷◌, le
 use Rattle.std.specs.FinMap as map
 use Rattle.std.specs.Coded.{Coded, coded_ℕ, coded_list}
 use Rattle.tree_model.specs.declared.files.FileName.{FileName}
-use Rattle.tree_model.specs.declared.files.FileName.TheVariants.{Version, EncryptedKey, Blob, BlobUpgraded, BlobNew, Discard, Stretching, Salt}
+use Rattle.tree_model.specs.declared.files.FileName.TheVariants.{Version, EncryptedKey, Blob, BlobUpgraded, BlobNew}
+use Rattle.tree_model.specs.declared.files.FileName.TheVariants.{Discard, Stretching, Salt}
 use Rattle.tree_model.specs.Files.{file_key, file_cmp, file_code}
 
 -- the files of a directory

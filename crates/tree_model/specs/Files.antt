@@ -7,7 +7,8 @@ use Rattle.std.specs.FinMap.{IsAntisymmetric, nat_cmp-IsAntisymmetric}
 use Rattle.std.specs.Coded.{Coded, code_by, coded_ℕ}
 use Rattle.std.proofs.Common.{zero, suc, sym, ap, ◌∙◌}
 use Rattle.tree_model.specs.declared.files.FileName.{FileName}
-use Rattle.tree_model.specs.declared.files.FileName.TheVariants.{Version, EncryptedKey, Blob, BlobUpgraded, BlobNew, Discard, Stretching, Salt}
+use Rattle.tree_model.specs.declared.files.FileName.TheVariants.{Version, EncryptedKey, Blob, BlobUpgraded, BlobNew}
+use Rattle.tree_model.specs.declared.files.FileName.TheVariants.{Discard, Stretching, Salt}
 
 -- the place of a file name among the variants
 abbrev pub file_key : FileName → ℕ
@@ -48,7 +49,9 @@ file_total = on_total file_key nat_cmp_total
 
 -- only equal names tie
 pub file_exact : IsAntisymmetric file_cmp
-file_exact a b tie = sym (key_file-file_key a) ∙ ap key_file (nat_cmp-IsAntisymmetric (file_key a) (file_key b) tie) ∙ key_file-file_key b
+file_exact a b tie =
+    sym (key_file-file_key a) ∙ ap key_file (nat_cmp-IsAntisymmetric (file_key a) (file_key b) tie)
+    ∙ key_file-file_key b
 
 abbrev pub file_code : Coded FileName
 file_code = code_by ℕ coded_ℕ file_key key_file key_file-file_key

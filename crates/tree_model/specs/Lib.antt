@@ -1,8 +1,11 @@
+pub mod Blobs
 pub mod Counted
 pub mod Device
 pub mod Dir
 pub mod Disk
 pub mod Files
+pub mod Held
+pub mod Named
 pub mod Order
 pub mod Parts
 pub mod Sites

@@ -35,7 +35,10 @@ slot_total = on_total slot_key nat_list_cmp_total
 
 -- only equal slots tie
 pub slot_exact : IsAntisymmetric slot_cmp
-slot_exact a b tie = sym (key_slot-slot_key a) ∙ ap key_slot (slice_cmp-IsAntisymmetric nat_cmp-IsAntisymmetric (slot_key a) (slot_key b) tie) ∙ key_slot-slot_key b
+slot_exact a b tie =
+    sym (key_slot-slot_key a)
+    ∙ ap key_slot (slice_cmp-IsAntisymmetric nat_cmp-IsAntisymmetric (slot_key a) (slot_key b) tie)
+    ∙ key_slot-slot_key b
 
 abbrev pub slot_code : Coded Slot
 slot_code = code_by (List ℕ) (coded_list coded_ℕ) slot_key key_slot key_slot-slot_key
@@ -66,7 +69,10 @@ place_total = on_total place_key nat_list_cmp_total
 
 -- only equal places tie
 pub place_exact : IsAntisymmetric place_cmp
-place_exact a b tie = sym (key_place-place_key a) ∙ ap key_place (slice_cmp-IsAntisymmetric nat_cmp-IsAntisymmetric (place_key a) (place_key b) tie) ∙ key_place-place_key b
+place_exact a b tie =
+    sym (key_place-place_key a)
+    ∙ ap key_place (slice_cmp-IsAntisymmetric nat_cmp-IsAntisymmetric (place_key a) (place_key b) tie)
+    ∙ key_place-place_key b
 
 abbrev pub place_code : Coded Place
 place_code = code_by (List ℕ) (coded_list coded_ℕ) place_key key_place key_place-place_key

@@ -4,13 +4,14 @@ use Rattle.std.specs.Ordering.{eq_by_cmp}
 use Rattle.tree_model.specs.declared.places.Place.{Place}
 use Rattle.tree_model.specs.declared.places.Place.TheVariants.{De as DePlace, Ce as CePlace, Temp as TempPlace}
 use Rattle.tree_model.specs.declared.ops.Op.{Op}
-use Rattle.tree_model.specs.declared.ops.Op.TheVariants.{MakeDir as MakeDirOp, Write as WriteOp, RenameFile as RenameFileOp}
-use Rattle.tree_model.specs.declared.ops.Op.TheVariants.{RenameDir as RenameDirOp, RemoveFile as RemoveFileOp}
-use Rattle.tree_model.specs.declared.ops.Op.TheVariants.{RemoveDir as RemoveDirOp}
+use Rattle.tree_model.specs.declared.ops.Op.TheVariants.{MakeDir as MakeDirOp, Write as WriteOp}
+use Rattle.tree_model.specs.declared.ops.Op.TheVariants.{RenameFile as RenameFileOp, RenameDir as RenameDirOp}
+use Rattle.tree_model.specs.declared.ops.Op.TheVariants.{RemoveFile as RemoveFileOp, RemoveDir as RemoveDirOp}
 use Rattle.tree_model.specs.declared.sites.Site.{Site}
 use Rattle.tree_model.specs.declared.sites.Site.TheVariants.{De, Ce, Temp}
 use Rattle.tree_model.specs.declared.sites.LocalOp.{LocalOp}
-use Rattle.tree_model.specs.declared.sites.LocalOp.TheVariants.{MakeDir, Write, RenameFile, RenameDir, RemoveFile, RemoveDir}
+use Rattle.tree_model.specs.declared.sites.LocalOp.TheVariants.{MakeDir, Write, RenameFile}
+use Rattle.tree_model.specs.declared.sites.LocalOp.TheVariants.{RenameDir, RemoveFile, RemoveDir}
 use Rattle.tree_model.specs.Order.{slot_cmp}
 use Rattle.tree_model.specs.Tree.{user_of}
 

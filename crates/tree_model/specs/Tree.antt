@@ -1,5 +1,6 @@
 -- Trees of directories, what an operation does to one, and the kinds of change that count.
-use Rattle.std.specs.Prelude.{ℕ, ◌+◌, ◌==◌, ◌&&◌, Bool, true, false, cond, List, [], ◌∷◌, Option, Some, None, is_some, IsSome}
+use Rattle.std.specs.Prelude.{ℕ, ◌+◌, ◌==◌, ◌&&◌, Bool, true, false, cond, List}
+use Rattle.std.specs.Prelude.{[], ◌∷◌, Option, Some, None, is_some, IsSome}
 use Rattle.std.specs.FinMap as map
 use Rattle.std.specs.Coded.{Coded}
 use Rattle.tree_model.specs.declared.files.FileName.{FileName}

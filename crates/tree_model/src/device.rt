@@ -69,7 +69,8 @@ pub trait TreeDisk: Drop {
     /// Makes an empty directory at a place that isn't in the view.
     fn make_dir(&mut self, place: Place) -> Result<(), DevFault>
         requires { IsNone (map.get (view (disk self.old)) place) }
-        ensures made { MatchResult result (λ _. disk self.new ≡ with_op (disk self.old) (MakeDir place)) (λ _. disk self.new ≡ disk self.old) }
+        ensures made { MatchResult result (λ _. disk self.new ≡ with_op (disk self.old) (MakeDir place))
+            (λ _. disk self.new ≡ disk self.old) }
         ensures counted { IsCounted (counts self.old) (counts self.new) result };
 
     /// The file of the directory at a place of the view holds the bytes, whether or not it was there.
@@ -82,18 +83,21 @@ pub trait TreeDisk: Drop {
     fn rename_dir(&mut self, from: Place, to: Place) -> Result<(), DevFault>
         requires there { IsSome (map.get (view (disk self.old)) from) }
         requires free { IsNone (map.get (view (disk self.old)) to) }
-        ensures renamed { MatchResult result (λ _. disk self.new ≡ with_op (disk self.old) (RenameDir from to)) (λ _. disk self.new ≡ disk self.old) }
+        ensures renamed { MatchResult result (λ _. disk self.new ≡ with_op (disk self.old) (RenameDir from to))
+            (λ _. disk self.new ≡ disk self.old) }
         ensures counted { IsCounted (counts self.old) (counts self.new) result };
 
     /// The directory at a place of the view and its files are gone.
     fn remove_dir(&mut self, place: Place) -> Result<(), DevFault>
         requires { IsSome (map.get (view (disk self.old)) place) }
-        ensures removed { MatchResult result (λ _. disk self.new ≡ with_op (disk self.old) (RemoveDir place)) (λ _. disk self.new ≡ disk self.old) }
+        ensures removed { MatchResult result
+            (λ _. disk self.new ≡ with_op (disk self.old) (RemoveDir place)) (λ _. disk self.new ≡ disk self.old) }
         ensures counted { IsCounted (counts self.old) (counts self.new) result };
 
     /// The view is stable. It takes no memory.
     fn sync(&mut self) -> Result<(), DevFault>
-        ensures synced { MatchResult result (λ _. disk self.new ≡ synced (disk self.old)) (λ _. disk self.new ≡ disk self.old) }
+        ensures synced { MatchResult result (λ _. disk self.new ≡ synced (disk self.old))
+            (λ _. disk self.new ≡ disk self.old) }
         ensures memory { ¬ (IsErrOf result WantsMemory) }
         ensures counted { IsCounted (counts self.old) (counts self.new) result };
 

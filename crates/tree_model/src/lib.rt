@@ -2,6 +2,7 @@
 //! device that keeps one through stops.
 #![tactic(auto)]
 
+pub mod blobs;
 pub mod bytes;
 pub mod device;
 pub mod files;
@@ -11,6 +12,7 @@ pub mod ops;
 pub mod places;
 pub mod sites;
 
+pub use blobs::Blob;
 pub use bytes::Bytes;
 pub use device::{Boot, DevFault, TreeDisk};
 pub use files::{Dir, FileName};

@@ -34,11 +34,13 @@ use Rattle.user_world.specs.Meaning.{OpensTo, PartStands}
 use Rattle.user_world.specs.OwnWorlds.{OwnWorld, quiet, own_view, own_record, OwnImagesStand, Keeps}
 use Rattle.user_world.specs.Facts.{Knows, Here, Always, Holds, AllHold}
 use Rattle.user_world.specs.Turns.{StepShows, adds_local, takes_local}
+use Rattle.tree_model.proofs.Logic.{is_none}
 use Rattle.user_world.proofs.OwnWorlds.{keeps-absent, absent-view}
 use Rattle.user_world.proofs.Facts.{knows-step, here-step, logged-step}
 use Rattle.key_directory.specs.Rehearsal.{rehearsal, rehearsal_opening, rehearsal_key, rehearsal_version}
 use Rattle.user_tasks.specs.declared.creates.Stage.{Stage}
-use Rattle.user_tasks.specs.declared.creates.Stage.TheVariants.{Clearing, Made, Versioned, Settled, Keyed, Renamed, Created}
+use Rattle.user_tasks.specs.declared.creates.Stage.TheVariants.{Clearing, Made, Versioned, Settled}
+use Rattle.user_tasks.specs.declared.creates.Stage.TheVariants.{Keyed, Renamed, Created}
 use Rattle.user_tasks.specs.declared.creates.Create.{Create}
 use Rattle.user_tasks.specs.Clearing.{IsNextToClear}
 use Rattle.user_tasks.specs.Create.{no_files, with_version, with_key, part, current_of, facts_at, turns_at, changes_at}
@@ -90,8 +92,8 @@ module _ (seed : List ℕ) (user : ℕ) (birth : Birth) where
           (sym (get-insert_same slot_total slot_exact map.empty Current [])) (opens_to_key seed ForCe user birth)
       slots (Cx n) =
           subst (λ secret. OpensTo (rehearsal_opening seed) None secret (rehearsal_key seed ForCe user birth))
-          (sym (get-insert_other slot_total slot_exact map.empty Current [] (Cx n) (λ e. cc) ∙ map.get-empty slot_cmp (Cx n)))
-          tt
+          (sym (get-insert_other slot_total slot_exact map.empty Current [] (Cx n) (λ e. cc)
+          ∙ map.get-empty slot_cmp (Cx n))) tt
 
   module _ (own : OwnWorld) where
     keeps-born : Holds (Always both) own
@@ -110,14 +112,18 @@ module _ (seed : List ℕ) (user : ℕ) (birth : Birth) where
 
     -- the temporary directory is made
     made : (current : Option Files) → Holds (Knows None) own → Holds (Here (part current None)) own
-        → StepShows (rehearsal seed) user own (quiet (MakeDir Temp)) (Knows None ∷ Here (part current (Some no_files)) ∷ [])
+        → StepShows (rehearsal seed) user own (quiet (MakeDir Temp))
+        (Knows None ∷ Here (part current (Some no_files)) ∷ [])
     made current absent here = record {
       fits = ap is_some (ap (λ p. p Temp) here);
       noted = refl;
       keeps = keeps-absent (rehearsal seed) user own (MakeDir Temp) absent refl;
       leads = (
         knows-step own (quiet (MakeDir Temp)) None absent,
-        (here-step own (quiet (MakeDir Temp)) (part current None) _ here (same_parts _ _ refl refl (λ n. refl) refl), tt),
+        (
+          here-step own (quiet (MakeDir Temp)) (part current None) _ here (same_parts _ _ refl refl (λ n. refl) refl),
+          tt,
+        ),
       );
     }
 
@@ -167,7 +173,8 @@ module _ (seed : List ℕ) (create : Create) (way : Option Site) (next : Next Cr
       → AllHold (facts_at seed create.user create.birth stage) own
       → StepShows (rehearsal seed) create.user own (quiet op) (facts_at seed create.user create.birth then))
       → changes_at then create.user create.birth ≡ changes_at stage create.user create.birth
-      → turns_at then + adds_local op < turns_at stage + takes_local op → 1 < turns_at stage → CreateTurns seed create way next
+      → turns_at then + adds_local op < turns_at stage + takes_local op → 1 < turns_at stage
+      → CreateTurns seed create way next
   quiet-turn stage then is op named stands changes falls lasts =
       at_stage stage is (subst (CreateTurns seed (record create { stage = stage }) way) (sym named)
       (λ boot began own images clear rests. record {
@@ -203,11 +210,13 @@ module _ (seed : List ℕ) (create : Create) (way : Option Site) (next : Next Cr
       refl (omega arith) (omega arith)
 
   pub version-turn : (class : Class) → create.stage ≡ Made class
-      → next ≡ CallNext (OpCall create.user (Write Temp Version rehearsal_version)) None (record create { stage = Versioned class })
+      → next ≡ CallNext (OpCall create.user (Write Temp Version rehearsal_version)) None
+      (record create { stage = Versioned class })
       → CreateTurns seed create way next
-  version-turn class is named = quiet-turn (Made class) (Versioned class) is (Write Temp Version rehearsal_version) named
-      (λ own images clear rests. written seed create.user create.birth own (current_of seed class create.user create.birth)
-      no_files Version rehearsal_version rests.0 rests.1.0)
+  version-turn class is named =
+      quiet-turn (Made class) (Versioned class) is (Write Temp Version rehearsal_version) named
+      (λ own images clear rests. written seed create.user create.birth own
+      (current_of seed class create.user create.birth) no_files Version rehearsal_version rests.0 rests.1.0)
       refl (omega arith) (omega arith)
 
   pub key-turn : (class : Class) → create.stage ≡ Versioned class →
@@ -217,8 +226,8 @@ module _ (seed : List ℕ) (create : Create) (way : Option Site) (next : Next Cr
   key-turn class is named =
       let key = rehearsal_key seed class create.user create.birth in
       quiet-turn (Versioned class) (Keyed class) is (Write Temp EncryptedKey key) named
-      (λ own images clear rests. written seed create.user create.birth own (current_of seed class create.user create.birth)
-      with_version EncryptedKey key rests.0 rests.1.0)
+      (λ own images clear rests. written seed create.user create.birth own
+      (current_of seed class create.user create.birth) with_version EncryptedKey key rests.0 rests.1.0)
       refl (omega arith) (omega arith)
 
   pub rename_ce-turn : create.stage ≡ Settled ForCe
@@ -247,7 +256,8 @@ module _ (seed : List ℕ) (create : Create) (way : Option Site) (next : Next Cr
       refl (omega arith) (omega arith)
 
   pub rename_de-turn : create.stage ≡ Settled ForDe
-      → next ≡ CallNext (OpCall create.user (RenameDir Temp De)) (Some (Born create.birth)) (record create { stage = Created })
+      → next ≡ CallNext (OpCall create.user (RenameDir Temp De)) (Some (Born create.birth))
+      (record create { stage = Created })
       → CreateTurns seed create way next
   rename_de-turn is named =
       at_stage (Settled ForDe) is (subst (CreateTurns seed (record create { stage = Settled ForDe }) way) (sym named)
@@ -281,7 +291,7 @@ create-begins user birth = record {
     of_user = refl;
     accepted = refl;
     serves = record { command = refl; birth = refl; changes = refl };
-    facts = (absent (own_record own) (sym present ∙ none facts.present accepted), tt);
+    facts = (is_none (own_record own) (sym present ∙ none facts.present accepted), tt);
   };
   few = omega arith;
 }
@@ -289,7 +299,3 @@ create-begins user birth = record {
     none : (present : Bool) → due present UserExists ≡ None → present ≡ false
     none true e = cc
     none false e = refl
-
-    absent : (found : Option Record) → is_some found ≡ false → found ≡ None
-    absent None e = refl
-    absent (Some record_) e = cc

@@ -2,6 +2,7 @@
 use Rattle.std.proofs.Common.{◌≡◌, ◌<◌, ℕ, List, [], ◌∷◌, refl, sym, ap, ◌∙◌, arith}
 use Rattle.std.specs.Prelude.{Some, None}
 use Rattle.std.specs.FinMap as map
+use Rattle.std.proofs.lemmas.Option.{none-some, same_Some}
 use Rattle.std.proofs.lemmas.List.Elements.{Contains-push}
 use Rattle.tree_model.specs.declared.places.Class.TheVariants.{De as ForDe}
 use Rattle.tree_model.specs.declared.files.FileName.TheVariants.{Version, EncryptedKey}
@@ -25,7 +26,8 @@ use Rattle.user_world.specs.Turns.{Rests}
 use Rattle.key_directory.specs.Rehearsal.{rehearsal, rehearsal_key, if_version}
 use Rattle.user_tasks.specs.declared.creates.Stage.{Stage}
 use Rattle.user_tasks.specs.declared.creates.Stage.TheVariants.{Made, Versioned, Settled, Renamed, Created}
-use Rattle.user_tasks.specs.Create.{no_files, with_version, with_key, part, current_of, facts_at, changes_at, create_rest}
+use Rattle.user_tasks.specs.Create.{no_files, with_version, with_key, part}
+use Rattle.user_tasks.specs.Create.{current_of, facts_at, changes_at, create_rest}
 use Rattle.user_tasks.specs.WrongPlans.{create_at, RenamesBeforeSync, RepliesBeforeSync, RenamesEmpty, LeavesOutDevice}
 use Rattle.user_tasks.specs.WrongPlans.{HidesChange, TouchesOther}
 use Rattle.user_tasks.proofs.CreateTurns.{born}
@@ -37,7 +39,12 @@ still held = record { stable = held; durable = []; pending = [] }
 module _ (seed : List ℕ) (user : ℕ) (birth : Birth) where
   abbrev began_at : Stage → Began
   began_at stage =
-      record { command = CreateCommand user; verdict = None; changes = changes_at stage user birth; index = birth.index }
+      record {
+        command = CreateCommand user;
+        verdict = None;
+        changes = changes_at stage user birth;
+        index = birth.index;
+      }
 
   -- the device key's directory is on its way, behind that of the credential key
   abbrev on_way : Files → Part
@@ -55,12 +62,6 @@ module _ (seed : List ℕ) (user : ℕ) (birth : Birth) where
     facts = facts;
   }
 
-some_same : {A : Type 0} (a b : A) → Some a ≡ Some b → a ≡ b
-some_same a b e = cc
-
-nothing : {A : Type 0} (a : A) → None ≡ Some a → ⊥
-nothing a e = cc
-
 no_cons : {A : Type 0} (x : A) (xs : List A) → x ∷ xs ≡ [] → ⊥
 no_cons x xs e = cc
 
@@ -73,8 +74,8 @@ renames-before-sync seed user birth turns =
     let none = always _ (Bytes [], refl) in
     let one = always _ (Bytes (0 ∷ []), refl) in
     let same : map.insert with_version EncryptedKey [] ≡ map.insert with_version EncryptedKey (0 ∷ []) =
-    some_same _ _ (ap (λ p. p Temp) (none ∙ sym one)) in
-    no_cons 0 [] (some_same (0 ∷ []) []
+    same_Some _ _ (ap (λ p. p Temp) (none ∙ sym one)) in
+    no_cons 0 [] (same_Some (0 ∷ []) []
     (sym (get-insert_same file_total file_exact with_version EncryptedKey (0 ∷ []))
     ∙ ap (λ files. map.get files EncryptedKey) (sym same)
     ∙ get-insert_same file_total file_exact with_version EncryptedKey []))
@@ -94,7 +95,7 @@ hides-change seed user birth turns =
     let own = still (on_way seed user birth (with_key seed ForDe user birth)) in
     let shows = turns birth.boot (began_at seed user birth (Settled ForDe)) own refl (tt, refl)
     (rests_at seed user birth (Settled ForDe) own (λ left is. is, (refl, (refl, tt)))) in
-    nothing _ (sym shows.stands.1.noted)
+    none-some _ (sym shows.stands.1.noted)
 
 pub touches-other : TouchesOther
 touches-other seed user other birth apart turns =
@@ -108,7 +109,7 @@ renames-empty seed user birth turns =
     let shows = turns birth.boot (began_at seed user birth (Made ForDe)) own refl (tt, refl)
     (rests_at seed user birth (Made ForDe) own (refl, (refl, tt))) in
     let stands = shows.stands.1.keeps.keeps (on_way seed user birth no_files) Same refl refl in
-    nothing (rehearsal_key seed ForDe user birth)
+    none-some (rehearsal_key seed ForDe user birth)
     (sym (ap (λ found. if_version found (map.get no_files EncryptedKey)) (map.get-empty file_cmp Version)) ∙ stands.de)
 
 pub replies-before-sync : RepliesBeforeSync

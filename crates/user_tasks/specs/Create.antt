@@ -18,12 +18,14 @@ use Rattle.user_world.specs.declared.changes.LocalChange.TheVariants.{Born}
 use Rattle.user_world.specs.declared.turns.Next.{Next}
 use Rattle.user_world.specs.Facts.{Fact, Knows, Logged, Durable, Here, Always}
 use Rattle.user_world.specs.OwnWorlds.{OwnWorld, own_view, OwnImagesStand}
-use Rattle.user_world.specs.Turns.{Rest, Rests, Scene, TurnShows}
+use Rattle.user_world.specs.Turns.{Rest, Rests, TurnShows}
 use Rattle.key_directory.specs.Rehearsal.{rehearsal, rehearsal_key, rehearsal_version}
 use Rattle.user_tasks.specs.declared.creates.Stage.{Stage}
-use Rattle.user_tasks.specs.declared.creates.Stage.TheVariants.{Clearing, Made, Versioned, Keyed, Settled, Renamed, Created, Ended}
+use Rattle.user_tasks.specs.declared.creates.Stage.TheVariants.{Clearing, Made, Versioned, Keyed}
+use Rattle.user_tasks.specs.declared.creates.Stage.TheVariants.{Settled, Renamed, Created, Ended}
 use Rattle.user_tasks.specs.declared.creates.Create.{Create}
 use Rattle.user_tasks.specs.Clearing.{IsNextToClear}
+use Rattle.user_tasks.specs.Scenes.{scene_of}
 
 abbrev pub no_files : Files
 no_files = map.empty
@@ -97,9 +99,6 @@ create_rest seed create = record {
 
 abbrev pub first_create : ℕ → Birth → Create
 first_create user birth = record { user = user; birth = birth; stage = Clearing }
-
-abbrev pub scene_of : List ℕ → ℕ → Began → OwnWorld → Scene
-scene_of seed boot began own = record { meaning = rehearsal seed; boot = boot; began = began; own = own }
 
 -- the turn shows what it has to, in every world in which the create rests
 abbrev pub CreateTurns : List ℕ → Create → Option Site → Next Create → Type 0

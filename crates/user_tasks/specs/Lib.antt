@@ -1,4 +1,5 @@
 pub mod Clearing
 pub mod Create
+pub mod Scenes
 pub mod Tasks
 pub mod WrongPlans

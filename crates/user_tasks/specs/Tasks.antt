@@ -13,7 +13,8 @@ use Rattle.user_world.specs.Turns.{Rest, Rests, TurnShows}
 use Rattle.key_directory.specs.Rehearsal.{rehearsal}
 use Rattle.user_tasks.specs.declared.creates.Create.{Create}
 use Rattle.user_tasks.specs.Clearing.{IsNextToClear}
-use Rattle.user_tasks.specs.Create.{create_rest, turns_at, scene_of}
+use Rattle.user_tasks.specs.Create.{create_rest, turns_at}
+use Rattle.user_tasks.specs.Scenes.{scene_of}
 
 abbrev pub UserTask : Type 0
 UserTask = Create

@@ -1,5 +1,5 @@
-//! The commands of users: each names its turns one after another, and shows of each what keeps the whole. A command is a
-//! file of code, one of what its stages rest on, and one of proofs.
+//! The commands of users: each names its turns one after another, and shows of each what keeps the whole. A command
+//! is a file of code, one of what its stages rest on, and one of proofs.
 #![tactic(auto)]
 
 pub mod creates;

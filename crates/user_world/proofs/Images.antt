@@ -1,6 +1,7 @@
--- The laws of images in their counted form: by users, of an operation, of a change, of a sync, of a stop, of a meaning.
-use Rattle.std.proofs.Common.{◌≡◌, ◌≢◌, inl, inr, zero, suc, ℕ, ◌+◌, ◌≤◌, ◌<◌, true, cond, List, [], ◌∷◌, ◌++◌, length, take}
-use Rattle.std.proofs.Common.{refl, sym, ap, ◌∙◌, subst, arith, length-append}
+-- The laws of images in their counted form: by users, of an operation, of a change, of a sync, of a stop, of a
+-- meaning.
+use Rattle.std.proofs.Common.{◌≡◌, ◌≢◌, inl, inr, zero, suc, ℕ, ◌+◌, ◌≤◌, ◌<◌, true, cond, List, [], ◌∷◌, ◌++◌}
+use Rattle.std.proofs.Common.{length, take, refl, sym, ap, ◌∙◌, subst, arith, length-append}
 use Rattle.std.proofs.lemmas.Bool.{cases_lt}
 use Rattle.std.specs.Prelude.{min, Option, None, is_some}
 use Rattle.std.specs.Cmp.{nat_cmp_total}
@@ -17,10 +18,12 @@ use Rattle.tree_model.specs.Touch.{IsOf, SameFor}
 use Rattle.tree_model.proofs.Maps.{decide_key, get-insert_other}
 use Rattle.tree_model.proofs.Parts.{fun_ext, user-place}
 use Rattle.tree_model.proofs.Touch.{same-other, of_user-filled}
-use Rattle.tree_model.proofs.Images.{image-IsImage, IsImage-applied, IsImage-append, changes_in-append, changes_in-take}
+use Rattle.tree_model.proofs.Images.{image-IsImage, IsImage-applied}
+use Rattle.tree_model.proofs.Images.{IsImage-append, changes_in-append, changes_in-take}
 use Rattle.journal_model.specs.declared.entries.Change.{Change}
 use Rattle.journal_model.specs.declared.entries.Change.TheVariants.{Create}
-use Rattle.journal_model.specs.Users.{Record, Users, after_change, folded, fold_changes, owner_of, no_users}
+use Rattle.journal_model.specs.Users.{Record, Users, after_change, fold_changes, owner_of, no_users}
+use Rattle.journal_model.proofs.Folds.{folded-append}
 use Rattle.user_world.specs.Meaning.{Meaning, PartStands, UserStands, StandsFor}
 use Rattle.user_world.specs.Images.{ImagesStand}
 use Rattle.user_world.specs.ImageLaws.{KeepsUser}
@@ -29,11 +32,6 @@ use Rattle.user_world.specs.ImageLaws.{KeepsUser}
 pub same-part : (user : ℕ) (before after : Tree) → SameFor user before after → part_of after user ≡ part_of before user
 same-part user before after same =
     fun_ext (part_of after user) (part_of before user) (λ site. same.same (place_of user site) (user-place user site))
-
-folded-append : (users : Users) (changes : List Change) (change : Change)
-    → folded users (changes ++ change ∷ []) ≡ after_change (folded users changes) change
-folded-append users [] change = refl
-folded-append users (first ∷ changes) change = folded-append (after_change users first) changes change
 
 -- the map after one more change
 pub fold_changes-append : (changes : List Change) (change : Change)
@@ -48,7 +46,8 @@ known-append log (Create user birth) other differ =
     ∙ get-insert_other nat_cmp_total nat_cmp-IsAntisymmetric (fold_changes log) user _ other differ
 
 module _ (meaning : Meaning) where
-  pub by-users : (tree : Tree) (op : Op) (user : ℕ) (before after : Users) → StandsFor meaning tree before → IsOf user op
+  pub by-users : (tree : Tree) (op : Op) (user : ℕ) (before after : Users)
+      → StandsFor meaning tree before → IsOf user op
       → ((other : ℕ) → other ≢ user → map.get after other ≡ map.get before other)
       → UserStands meaning (after_op tree op) user (map.get after user) → StandsFor meaning (after_op tree op) after
   by-users tree op user before after stands own others here = record {
@@ -56,7 +55,8 @@ module _ (meaning : Meaning) where
       | inl same ↦ subst (λ u. UserStands meaning (after_op tree op) u (map.get after u)) (sym same) here
       | inr differ ↦ subst (UserStands meaning (after_op tree op) other) (sym (others other differ))
           (subst (λ part. PartStands meaning other part (map.get before other))
-          (sym (same-part other tree (after_op tree op) (same-other user other tree op own differ))) (stands.user other))
+          (sym (same-part other tree (after_op tree op) (same-other user other tree op own differ)))
+          (stands.user other))
     ];
   }
 
@@ -70,7 +70,8 @@ module _ (meaning : Meaning) (disk : Disk) (kept : ℕ) (log : List Change) wher
       let to_end : take (kept + changes_in disk.stable (take (length disk.pending) disk.pending)) log ≡ log =
       take_all _ log (omega (arith, stand.counted, ap (changes_in disk.stable) all)) in
       subst (λ changes. StandsFor meaning left (fold_changes changes)) to_end
-      (stand.stands (length disk.pending) left (omega arith) (subst (λ ops. IsImage disk.stable ops left) (sym all) is))
+      (stand.stands (length disk.pending) left (omega arith)
+      (subst (λ ops. IsImage disk.stable ops left) (sym all) is))
 
   pub view-stands : ImagesStand meaning disk kept log → StandsFor meaning (view disk) (fold_changes log)
   view-stands stand = whole stand (view disk) (IsImage-applied disk.stable disk.pending)
@@ -86,7 +87,8 @@ module _ (meaning : Meaning) (disk : Disk) (kept : ℕ) (log : List Change) wher
       let same : take keep (disk.pending ++ op ∷ []) ≡ take keep disk.pending =
       take-append-le keep disk.pending (op ∷ []) short in
       let few = changes_in-take disk.stable disk.pending keep in
-      let within : kept + changes_in disk.stable (take keep disk.pending) ≤ length log = omega (arith, stand.counted, few) in
+      let within : kept + changes_in disk.stable (take keep disk.pending) ≤ length log =
+      omega (arith, stand.counted, few) in
       subst (λ ops. IsImage disk.stable ops left
       → StandsFor meaning left (fold_changes (take (kept + changes_in disk.stable ops) (log ++ more)))) (sym same)
       (λ there. subst (λ changes. StandsFor meaning left (fold_changes changes))
@@ -107,13 +109,16 @@ module _ (meaning : Meaning) (disk : Disk) (kept : ℕ) (log : List Change) wher
   last more op stand counted keeps keep left long is =
       let all : take keep (disk.pending ++ op ∷ []) ≡ disk.pending ++ op ∷ [] =
       take_all keep (disk.pending ++ op ∷ []) (omega (arith, length-append disk.pending (op ∷ []))) in
-      let from = IsImage-append disk.stable disk.pending op left (subst (λ ops. IsImage disk.stable ops left) all is) in
+      let from = IsImage-append disk.stable disk.pending op left
+      (subst (λ ops. IsImage disk.stable ops left) all is) in
       let stands : StandsFor meaning left (fold_changes (log ++ more)) =
       subst (λ tree. StandsFor meaning tree (fold_changes (log ++ more))) (sym from.1.1.1)
       (keeps from.0 from.1.0 from.1.1.0 (whole stand from.0 from.1.1.0)) in
-      subst (λ ops. StandsFor meaning left (fold_changes (take (kept + changes_in disk.stable ops) (log ++ more)))) (sym all)
+      subst (λ ops. StandsFor meaning left (fold_changes (take (kept + changes_in disk.stable ops) (log ++ more))))
+      (sym all)
       (subst (λ changes. StandsFor meaning left (fold_changes changes))
-      (sym (take_all (kept + changes_in disk.stable (disk.pending ++ op ∷ [])) (log ++ more) (omega (arith, counted)))) stands)
+      (sym (take_all (kept + changes_in disk.stable (disk.pending ++ op ∷ [])) (log ++ more)
+      (omega (arith, counted)))) stands)
 
   -- one more operation, with the changes that it makes, keeps all images, where it keeps each tree that all can leave
   images-op : (more : List Change) (op : Op) → ImagesStand meaning disk kept log
@@ -137,18 +142,21 @@ module _ (meaning : Meaning) (disk : Disk) (kept : ℕ) (log : List Change) wher
       → UserStands meaning (after_op left (filled fill op)) user (map.get after user))
       → StandsFor meaning (after_op left (filled fill op)) after
   own_stands user left op fill after own others stands keeps =
-      by-users meaning left (filled fill op) user (fold_changes log) after stands (of_user-filled user fill op own) others
+      by-users meaning left (filled fill op) user (fold_changes log) after stands
+      (of_user-filled user fill op own) others
       (keeps (stands.user user))
 
   -- one user's operation that is no change
-  pub images-own : (op : Op) (user : ℕ) → ImagesStand meaning disk kept log → IsOf user op → kind_of (view disk) op ≡ None
+  pub images-own : (op : Op) (user : ℕ) → ImagesStand meaning disk kept log → IsOf user op
+      → kind_of (view disk) op ≡ None
       → KeepsUser meaning disk op user (map.get (fold_changes log) user) (map.get (fold_changes log) user)
       → ImagesStand meaning (with_op disk op) kept log
   images-own op user stand own none keeps =
       subst (ImagesStand meaning (with_op disk op) kept) (append-nil log)
       (images-op [] op stand (sym (ap (λ kind. cond (is_some kind) 1 0) none))
       (λ left fill is stands.
-      subst (λ changes. StandsFor meaning (after_op left (filled fill op)) (fold_changes changes)) (sym (append-nil log))
+      subst (λ changes. StandsFor meaning (after_op left (filled fill op)) (fold_changes changes))
+      (sym (append-nil log))
       (own_stands user left op fill (fold_changes log) own (λ other differ. refl) stands (keeps left fill is))))
 
   -- one user's operation that is a change
@@ -171,18 +179,22 @@ images-settled meaning tree log stands = record {
 }
   where
     all : (n : ℕ) → n ≡ length log → StandsFor meaning tree (fold_changes (take n log))
-    all n same = subst (λ changes. StandsFor meaning tree (fold_changes changes)) (sym (take_all n log (omega arith))) stands
+    all n same =
+        subst (λ changes. StandsFor meaning tree (fold_changes changes)) (sym (take_all n log (omega arith))) stands
 
     nothing : (keep : ℕ) (left : Tree) → IsImage tree (take keep []) left
         → StandsFor meaning left (fold_changes (take (length log + changes_in tree (take keep [])) log))
     nothing zero left is =
-        subst (λ t. StandsFor meaning t (fold_changes (take (length log + 0) log))) (sym is) (all (length log + 0) (omega arith))
+        subst (λ t. StandsFor meaning t (fold_changes (take (length log + 0) log))) (sym is)
+        (all (length log + 0) (omega arith))
     nothing (suc keep) left is =
-        subst (λ t. StandsFor meaning t (fold_changes (take (length log + 0) log))) (sym is) (all (length log + 0) (omega arith))
+        subst (λ t. StandsFor meaning t (fold_changes (take (length log + 0) log))) (sym is)
+        (all (length log + 0) (omega arith))
 
 pub images-sync : (meaning : Meaning) (disk : Disk) (kept : ℕ) (log : List Change) → ImagesStand meaning disk kept log
     → ImagesStand meaning (synced disk) (length log) log
-images-sync meaning disk kept log stand = images-settled meaning (view disk) log (view-stands meaning disk kept log stand)
+images-sync meaning disk kept log stand =
+    images-settled meaning (view disk) log (view-stands meaning disk kept log stand)
 
 pub images-stop : (meaning : Meaning) (disk : Disk) (kept : ℕ) (log : List Change) (keep : ℕ) (fills : List Fill)
     → ImagesStand meaning disk kept log
@@ -193,7 +205,8 @@ images-stop meaning disk kept log keep fills stand =
     let left = image_at disk count fills in
     let survived = kept + changes_in disk.stable (take count disk.pending) in
     let few = changes_in-take disk.stable disk.pending count in
-    let long : length (take survived log) ≡ survived = length-take-le survived log (omega (arith, stand.counted, few)) in
+    let long : length (take survived log) ≡ survived =
+    length-take-le survived log (omega (arith, stand.counted, few)) in
     subst (λ n. ImagesStand meaning (stopped disk keep fills) n (take survived log)) long
     (images-settled meaning left (take survived log)
     (stand.stands count left (omega arith) (image-IsImage disk.stable (take count disk.pending) fills)))
@@ -201,7 +214,8 @@ images-stop meaning disk kept log keep fills stand =
 -- another meaning
 pub images-meaning : (before after : Meaning) (disk : Disk) (kept : ℕ) (log : List Change)
     → ((keep : ℕ) (left : Tree) (user : ℕ) (known : Option Record) → keep ≤ length disk.pending
-    → IsImage disk.stable (take keep disk.pending) left → UserStands before left user known → UserStands after left user known)
+    → IsImage disk.stable (take keep disk.pending) left → UserStands before left user known
+    → UserStands after left user known)
     → ImagesStand before disk kept log → ImagesStand after disk kept log
 images-meaning before after disk kept log goes stand = record {
   counted = stand.counted;

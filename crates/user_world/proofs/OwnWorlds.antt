@@ -13,8 +13,9 @@ use Rattle.journal_model.specs.Users.{Record}
 use Rattle.user_world.specs.declared.changes.LocalChange.{LocalChange}
 use Rattle.user_world.specs.Changes.{known_after, known_through, if_noted, known_with}
 use Rattle.user_world.specs.Meaning.{Meaning, PartStands}
-use Rattle.user_world.specs.OwnWorlds.{Step, quiet, filled_step, notes, OwnWorld, part_after, own_view, own_log, own_record}
-use Rattle.user_world.specs.OwnWorlds.{with_step, settled, IsOwnImage, StandThrough, OwnImagesStand, Keeps}
+use Rattle.user_world.specs.OwnWorlds.{Step, quiet, filled_step, notes, OwnWorld, part_after}
+use Rattle.user_world.specs.OwnWorlds.{own_view, own_log, own_record, with_step, settled}
+use Rattle.user_world.specs.OwnWorlds.{IsOwnImage, StandThrough, OwnImagesStand, Keeps}
 
 part_after-append : (part : Part) (steps : List Step) (step : Step)
     → part_after part (steps ++ step ∷ []) ≡ after_local (part_after part steps) step.op
@@ -53,7 +54,8 @@ noted-known known None changes = refl
 noted-known known (Some change) changes = refl
 
 -- the user's record after a step
-pub record-step : (own : OwnWorld) (step : Step) → own_record (with_step own step) ≡ known_with (own_record own) step.note
+pub record-step : (own : OwnWorld) (step : Step)
+    → own_record (with_step own step) ≡ known_with (own_record own) step.note
 record-step own step =
     ap (known_through None) (log-step own step)
     ∙ known_through-append None (own_log own) _ ∙ noted-known (own_record own) step.note []
@@ -68,7 +70,8 @@ pub record IsAfter (part : Part) (steps : List Step) (step : Step) (left : Part)
   pub image : IsOwnImage part steps before
   pub is : left ≡ after_local before (filled_local fill step.op)
 
-pub image-step : (part : Part) (steps : List Step) (step : Step) (left : Part) → IsOwnImage part (steps ++ step ∷ []) left
+pub image-step : (part : Part) (steps : List Step) (step : Step) (left : Part)
+    → IsOwnImage part (steps ++ step ∷ []) left
     → IsAfter part steps step left
 image-step part [] step left is = record { before = part; fill = is.0; image = refl; is = is.1 }
 image-step part (first ∷ steps) step left is =
@@ -86,13 +89,15 @@ module _ (meaning : Meaning) (user : ℕ) where
       → StandThrough meaning user part known steps
       → ((left : Part) (fill : Fill) → IsOwnImage part steps left
       → PartStands meaning user left (known_through known (notes steps))
-      → PartStands meaning user (after_local left (filled_local fill step.op)) (known_with (known_through known (notes steps)) step.note))
+      → PartStands meaning user (after_local left (filled_local fill step.op))
+      (known_with (known_through known (notes steps)) step.note))
       → StandThrough meaning user part known (steps ++ step ∷ [])
   stand-append part known [] step stand keeps = (stand, λ fill. keeps part fill refl stand)
   stand-append part known (first ∷ steps) step stand keeps = (
     stand.0,
     λ fill.
-        stand-append (after_local part (filled_local fill first.op)) (known_with known first.note) steps step (stand.1 fill)
+        stand-append (after_local part (filled_local fill first.op))
+        (known_with known first.note) steps step (stand.1 fill)
         (λ left last is. subst (λ k. PartStands meaning user left k
         → PartStands meaning user (after_local left (filled_local last step.op)) (known_with k step.note))
         (noted-known known first.note (notes steps)) (keeps left last (fill, is))),
@@ -102,11 +107,12 @@ module _ (meaning : Meaning) (user : ℕ) where
   pub images-step : (own : OwnWorld) (step : Step) → OwnImagesStand meaning user own → Keeps meaning user own step
       → (fill : Fill) → OwnImagesStand meaning user (with_step own (filled_step fill step))
   images-step own step stand keeps fill =
-      stand-append own.stable (known_through None own.durable) own.pending (filled_step fill step) stand (λ left last is.
+      stand-append own.stable (known_through None own.durable) own.pending
+      (filled_step fill step) stand (λ left last is.
       let one = filled_twice fill last step.op in
       subst (λ k. PartStands meaning user left k
-      → PartStands meaning user (after_local left (filled_local last (filled_local fill step.op))) (known_with k step.note))
-      (known_through-append None own.durable (notes own.pending))
+      → PartStands meaning user (after_local left (filled_local last (filled_local fill step.op)))
+      (known_with k step.note)) (known_through-append None own.durable (notes own.pending))
       (subst (λ op. PartStands meaning user left (own_record own)
       → PartStands meaning user (after_local left op) (known_with (own_record own) step.note))
       (sym one.1) (keeps.keeps left one.0 is)))
@@ -118,7 +124,8 @@ module _ (meaning : Meaning) (user : ℕ) where
   stand-last part known [] left stand is = subst (λ p. PartStands meaning user p known) (sym is) stand
   stand-last part known (step ∷ steps) left stand is =
       subst (PartStands meaning user left) (sym (noted-known known step.note (notes steps)))
-      (stand-last (after_local part (filled_local is.0 step.op)) (known_with known step.note) steps left (stand.1 is.0) is.1)
+      (stand-last (after_local part (filled_local is.0 step.op))
+      (known_with known step.note) steps left (stand.1 is.0) is.1)
 
   pub stand-head : (part : Part) (known : Option Record) (steps : List Step)
       → StandThrough meaning user part known steps → PartStands meaning user part known
@@ -147,7 +154,8 @@ module _ (meaning : Meaning) (user : ℕ) where
       at Temp = refl
 
   -- a step with no change at the temporary site alone
-  pub keeps-temp : (own : OwnWorld) (op : LocalOp) → touches op De ≡ false → ((slot : _) → touches op (Ce slot) ≡ false)
+  pub keeps-temp : (own : OwnWorld) (op : LocalOp) → touches op De ≡ false
+      → ((slot : _) → touches op (Ce slot) ≡ false)
       → Keeps meaning user own (quiet op)
   keeps-temp own op de ce = record {
     keeps = λ left fill is stands. stands-framed left (after_local left (filled_local fill op)) (own_record own)

@@ -1,6 +1,6 @@
 -- The whole stands exactly where each user's world stands.
-use Rattle.std.proofs.Common.{◌≡◌, ◌≢◌, ℕ, ◌+◌, ◌≤◌, zero, suc, cond, List, [], ◌∷◌, ◌++◌, length, take, refl, sym, ap, ◌∙◌}
-use Rattle.std.proofs.Common.{subst, arith, length-append}
+use Rattle.std.proofs.Common.{◌≡◌, ◌≢◌, ℕ, ◌+◌, ◌≤◌, zero, suc, cond, List, [], ◌∷◌, ◌++◌, length, take, refl, sym}
+use Rattle.std.proofs.Common.{ap, ◌∙◌, subst, arith, length-append}
 use Rattle.std.specs.Prelude.{◌↔◌, Option, Some, None, is_some}
 use Rattle.std.specs.FinMap as map
 use Rattle.std.proofs.Math.Seq.{take-append-add}
@@ -30,7 +30,8 @@ module _ (user owner : ℕ) (known : Option Record) (note : Option LocalChange) 
   mine-known same =
       let mine = if_noted note (λ change. change) (changes_for user changes) in
       ap (known_through known) (noted-for user owner note changes
-      ∙ cases_owner owner user (λ t. cond t mine (changes_for user changes) ≡ mine) (λ e. refl) (λ differ. absurd (differ same)))
+      ∙ cases_owner owner user (λ t. cond t mine (changes_for user changes) ≡ mine) (λ e. refl)
+      (λ differ. absurd (differ same)))
       ∙ noted-known known note (changes_for user changes)
 
   theirs-known : owner ≢ user
@@ -53,7 +54,8 @@ module _ (meaning : Meaning) (user : ℕ) where
       → IsImage tree (ops_of (take keep pending)) left
       → PartStands meaning user (part_of left user) (known_at user known keep pending)
   fronts [] zero tree left known stand is = subst (λ t. PartStands meaning user (part_of t user) known) (sym is) stand
-  fronts [] (suc keep) tree left known stand is = subst (λ t. PartStands meaning user (part_of t user) known) (sym is) stand
+  fronts [] (suc keep) tree left known stand is =
+      subst (λ t. PartStands meaning user (part_of t user) known) (sym is) stand
   fronts (owned ∷ rest) zero tree left known stand is =
       subst (λ t. PartStands meaning user (part_of t user) known) (sym is)
       (stand-head meaning user (part_of tree user) known (steps_of user (owned ∷ rest)) stand)
@@ -160,11 +162,13 @@ front-changes [] zero = refl
 front-changes [] (suc keep) = refl
 front-changes (owned ∷ rest) zero = refl
 front-changes (owned ∷ rest) (suc keep) =
-    front-noted owned.step.note (change_of owned.user) (changes_of (take keep rest)) (changes_of rest) (front-changes rest keep)
+    front-noted owned.step.note (change_of owned.user) (changes_of (take keep rest)) (changes_of rest)
+    (front-changes rest keep)
 
 module _ (world : World) (keep : ℕ) (fit : NotesFit world.stable world.pending) where
   -- how many changes a front of the pending operations makes
-  pub front-length : changes_in world.stable (take keep (ops_of world.pending)) ≡ length (changes_of (take keep world.pending))
+  pub front-length : changes_in world.stable (take keep (ops_of world.pending))
+      ≡ length (changes_of (take keep world.pending))
   front-length =
       ap (changes_in world.stable) (sym (ops-take world.pending keep))
       ∙ counts world.stable (take keep world.pending) (fit-take world.stable world.pending keep fit)
@@ -178,7 +182,8 @@ module _ (world : World) (keep : ℕ) (fit : NotesFit world.stable world.pending
       ∙ ap (λ cs. world.durable ++ cs) (front-changes world.pending keep)
 
   known-cut : (user : ℕ)
-      → map.get (fold_changes (take (length world.durable + changes_in world.stable (take keep (ops_of world.pending))) (log_of world))) user
+      → map.get (fold_changes
+      (take (length world.durable + changes_in world.stable (take keep (ops_of world.pending))) (log_of world))) user
       ≡ known_at user (known_through None (changes_for user world.durable)) keep world.pending
   known-cut user =
       let front = changes_of (take keep world.pending) in
@@ -217,7 +222,8 @@ pub shown : (world : World) (line : Timeline) (P : Timeline → Type 0) → IsWo
 shown world line P shows here =
     subst (λ d. P (record line { disk = d })) (sym shows.is_disk)
     (subst (λ n. P (record { disk = disk_of world; kept = n; log = line.log })) (sym shows.is_kept)
-    (subst (λ log. P (record { disk = disk_of world; kept = length world.durable; log = log })) (sym shows.is_log) here))
+    (subst (λ log. P (record { disk = disk_of world; kept = length world.durable; log = log }))
+    (sym shows.is_log) here))
 
 pub product : (meaning : Meaning) (world : World) (line : Timeline) → IsWorldOf world line
     → ImagesStand meaning line.disk line.kept line.log ↔ ((user : ℕ) → OwnImagesStand meaning user (own user world))

@@ -23,20 +23,21 @@ use Rattle.user_world.specs.Meaning.{Meaning, PartStands, StandsFor}
 use Rattle.user_world.specs.Images.{ImagesStand}
 use Rattle.user_world.specs.OwnWorlds.{Step, quiet, filled_step, own_view, own_record, settled, OwnImagesStand}
 use Rattle.user_world.specs.Facts.{Fact, Logged, Durable, Holds, AllHold, Later}
-use Rattle.user_world.specs.Worlds.{Owned, World, ops_of, changes_of, log_of, own, with_owned, settled_world, stopped_world}
-use Rattle.user_world.specs.Worlds.{NotesFit}
+use Rattle.user_world.specs.Worlds.{Owned, World, ops_of, changes_of, log_of, own}
+use Rattle.user_world.specs.Worlds.{with_owned, settled_world, stopped_world, NotesFit}
 use Rattle.user_world.specs.Timelines.{Timeline, owned_op, dealt, owned_ops, world_of, IsWorldOf, own_of, WorldStands}
 use Rattle.user_world.specs.Timelines.{OwnWorldsStand, line_with, settled_line, stopped_line, still_line, LeadsTo}
 use Rattle.user_world.specs.Turns.{StepShows}
 use Rattle.user_world.proofs.OwnWorlds.{view-stands, known_through-append, images-step}
-use Rattle.user_world.proofs.Worlds.{cases_owner, part-applied, changes-steps, changes_for-append, log-own, known-own, own-step}
-use Rattle.user_world.proofs.Worlds.{own-other, own-settled, contains-of, none-of, local-change_of}
+use Rattle.user_world.proofs.Worlds.{cases_owner, part-applied, changes-steps, changes_for-append, log-own, known-own}
+use Rattle.user_world.proofs.Worlds.{own-step, own-other, own-settled, contains-of, none-of, local-change_of}
 use Rattle.user_world.proofs.Product.{product, fronts, ops-take, cut, front-length, shown}
 
 -- a world is the one that its timeline shows
 owned-op : (user : ℕ) (op : LocalOp) (note : Option LocalChange)
     → owned_op (op_of user op) note ≡ record { user = user; step = record { op = op; note = note } }
-owned-op user op note = λ i. record { user = user-op user op i; step = record { op = local-op user op i; note = note } }
+owned-op user op note =
+    λ i. record { user = user-op user op i; step = record { op = local-op user op i; note = note } }
 
 dealt-noted : (user : ℕ) (op : LocalOp) (note : Option LocalChange) (changes : List Change)
     (rest : List Change → List Owned)
@@ -127,7 +128,8 @@ module _ (meaning : Meaning) where
           shows = shows;
           images = λ other. cases_owner other user (λ t. OwnImagesStand meaning other (own other world'))
               (λ same. subst (λ u. OwnImagesStand meaning u (own u world')) (sym same) mine)
-              (λ differ. subst (OwnImagesStand meaning other) (sym (own-other other world user step (λ e. differ (sym e))))
+              (λ differ. subst (OwnImagesStand meaning other)
+              (sym (own-other other world user step (λ e. differ (sym e))))
               (stands.images other));
         });
         rests = subst (λ w. AllHold next (own user w)) is rests;
@@ -140,7 +142,8 @@ module _ (meaning : Meaning) where
       → StepShows meaning user (own_of user line) step next → LeadsTo meaning user next line (line_with line user step)
   line-step line user step next stands step_shows =
       let world = world_of line in
-      leads line (line_with line user step) user step next (shows-step world line user step stands.shows step_shows.noted) stands
+      leads line (line_with line user step) user step next
+      (shows-step world line user step stands.shows step_shows.noted) stands
       (subst (OwnImagesStand meaning user) (sym (own-step user world step))
       (images-step meaning user (own user world) step (stands.images user) step_shows.keeps Same))
       (subst (AllHold next) (sym (own-step user world step)) step_shows.leads)
@@ -205,7 +208,8 @@ module _ (meaning : Meaning) where
         log = take survived (log_of world);
       })
   stopped-shows world keep n fills fit is = record {
-    is_disk = ap (λ k. record { stable = image world.stable (take k (ops_of world.pending)) fills; pending = [] }) (sym is)
+    is_disk =
+        ap (λ k. record { stable = image world.stable (take k (ops_of world.pending)) fills; pending = [] }) (sym is)
         ∙ ap (λ ops. record { stable = image world.stable ops fills; pending = [] }) (sym (ops-take world.pending n));
     is_log = cut world n fit ∙ sym (append-nil (world.durable ++ changes_of (take n world.pending)));
     is_kept = ap (λ k. length world.durable + k) (front-length world n fit)
@@ -242,10 +246,11 @@ module _ (meaning : Meaning) where
 
   pub line-still : (base : Tree) (changes : List Change) → StandsFor meaning base (fold_changes changes)
       → OwnWorldsStand meaning (still_line base changes)
-  line-still base changes stands = stands-shown meaning (record { stable = base; durable = changes; pending = [] }) _ (record {
-    shows = record { is_disk = refl; is_log = sym (append-nil changes); is_kept = refl; fit = tt };
-    images = λ user. (base-own base changes).0 stands user;
-  })
+  line-still base changes stands =
+      stands-shown meaning (record { stable = base; durable = changes; pending = [] }) _ (record {
+        shows = record { is_disk = refl; is_log = sym (append-nil changes); is_kept = refl; fit = tt };
+        images = λ user. (base-own base changes).0 stands user;
+      })
 
   -- every image stands for a front of the log
   pub line-images : (line : Timeline) → OwnWorldsStand meaning line → ImagesStand meaning line.disk line.kept line.log
@@ -260,7 +265,8 @@ module _ (user : ℕ) (world : World) (line : Timeline) (shows : IsWorldOf world
   known-shown = sym (ap (λ cs. map.get (fold_changes cs) user) shows.is_log ∙ known-own user (log_of world)
       ∙ ap (known_through None) (log-own user world))
 
-  pub logged-shown : (change : LocalChange) → Holds (Logged change) (own user world) → Contains line.log (change_of user change)
+  pub logged-shown : (change : LocalChange) → Holds (Logged change) (own user world)
+      → Contains line.log (change_of user change)
   logged-shown change holds =
       subst (λ cs. Contains cs (change_of user change)) (sym shows.is_log)
       (contains-of user (log_of world) change (subst (λ cs. Contains cs change) (sym (log-own user world)) holds))

@@ -4,8 +4,8 @@ use Rattle.std.proofs.Common.{inl, inr, arith}
 use Rattle.std.specs.Prelude.{◌==◌, Bool, Option, Some, None, Contains}
 use Rattle.std.proofs.lemmas.Bool.{eqb-true, eqb-false}
 use Rattle.std.proofs.lemmas.List.{append-nil}
-use Rattle.std.proofs.lemmas.List.Elements.{Contains-append_left, Contains-append_right, Contains-push, Contains-push_cases}
-use Rattle.std.proofs.lemmas.List.Elements.{Contains-append_cases}
+use Rattle.std.proofs.lemmas.List.Elements.{Contains-append_left, Contains-append_right}
+use Rattle.std.proofs.lemmas.List.Elements.{Contains-push, Contains-push_cases, Contains-append_cases}
 use Rattle.std.specs.Cmp.{nat_cmp_total}
 use Rattle.std.specs.Ordering.{nat_cmp}
 use Rattle.std.specs.FinMap as map
@@ -40,7 +40,8 @@ cases_owner owner user P mine theirs = elim (owner == user) as (λ t. owner == u
 -- an operation of the user's, and one of another's, in the user's part
 module _ (tree : Tree) (fill : Fill) (owner user : ℕ) (op : LocalOp) where
   pub after-mine : owner ≡ user
-      → part_of (after_op tree (filled fill (op_of owner op))) user ≡ after_local (part_of tree user) (filled_local fill op)
+      → part_of (after_op tree (filled fill (op_of owner op))) user
+      ≡ after_local (part_of tree user) (filled_local fill op)
   after-mine same = subst (λ u. part_of (after_op tree (filled fill (op_of owner op))) u
       ≡ after_local (part_of tree u) (filled_local fill op)) same (part-own_filled tree owner fill op)
 
@@ -71,7 +72,8 @@ noted-for user owner None changes = same_branches (owner == user) (changes_for u
 noted-for user owner (Some (Born birth)) changes = refl
 
 -- the user's changes among the pending ones are those that the user's steps note
-pub changes-steps : (user : ℕ) (pending : List Owned) → changes_for user (changes_of pending) ≡ notes (steps_of user pending)
+pub changes-steps : (user : ℕ) (pending : List Owned)
+    → changes_for user (changes_of pending) ≡ notes (steps_of user pending)
 changes-steps user [] = refl
 changes-steps user (owned ∷ rest) =
     let later = changes_for user (changes_of rest) in
@@ -99,7 +101,8 @@ steps_of-append user [] owned = refl
 steps_of-append user (first ∷ rest) owned =
     let all = steps_of user (rest ++ owned ∷ []) in
     elim (first.user == user) as (λ t. cond t (first.step ∷ all) all
-    ≡ cond t (first.step ∷ steps_of user rest) (steps_of user rest) ++ cond (owned.user == user) (owned.step ∷ []) []) [
+    ≡ cond t (first.step ∷ steps_of user rest) (steps_of user rest)
+    ++ cond (owned.user == user) (owned.step ∷ []) []) [
       | true ↦ ap (λ steps. first.step ∷ steps) (steps_of-append user rest owned)
       | false ↦ steps_of-append user rest owned
     ]
@@ -121,7 +124,8 @@ module _ (user : ℕ) (world : World) where
   pub own-other : (other : ℕ) (step : Step) → other ≢ user → own user (with_owned world other step) ≡ own user world
   own-other other step differ = ap (λ steps. record (own user world) { pending = steps })
       (steps_of-append user world.pending (record { user = other; step = step })
-      ∙ cases_owner other user (λ t. steps_of user world.pending ++ cond t (step ∷ []) [] ≡ steps_of user world.pending)
+      ∙ cases_owner other user
+      (λ t. steps_of user world.pending ++ cond t (step ∷ []) [] ≡ steps_of user world.pending)
       (λ same. absurd (differ same)) (λ apart. append-nil (steps_of user world.pending)))
 
   -- a sync settles the user's world
@@ -133,7 +137,8 @@ module _ (user : ℕ) (world : World) where
 
 -- a change is of its owner's record alone
 change-mine : (users : Users) (change : Change)
-    → map.get (after_change users change) (owner_of change) ≡ known_after (map.get users (owner_of change)) (local_of change)
+    → map.get (after_change users change) (owner_of change)
+    ≡ known_after (map.get users (owner_of change)) (local_of change)
 change-mine users (Create owner birth) = get-insert_same nat_cmp_total nat_cmp-IsAntisymmetric users owner _
 
 change-theirs : (users : Users) (change : Change) (user : ℕ) → owner_of change ≢ user
@@ -190,7 +195,8 @@ pub none-of : (user : ℕ) (changes : List Change) → changes_for user changes 
 none-of user [] none = tt
 none-of user (change ∷ changes) none =
     cases_owner (owner_of change) user (λ t.
-    cond t (local_of change ∷ changes_for user changes) (changes_for user changes) ≡ [] → NoChangeOf user (change ∷ changes))
+    cond t (local_of change ∷ changes_for user changes) (changes_for user changes) ≡ []
+    → NoChangeOf user (change ∷ changes))
     (λ same none. cc) (λ differ none. (differ, none-of user changes none)) none
 
 -- an owned change is one of its owner's local changes

@@ -1,5 +1,6 @@
 -- The laws by which every image keeps standing for a prefix of the changes, for every meaning of "opens".
-use Rattle.std.specs.Prelude.{◌≡◌, ◌≢◌, ℕ, ◌+◌, ◌≤◌, min, List, [], ◌∷◌, ◌++◌, length, take, Option, None, is_some, true}
+use Rattle.std.specs.Prelude.{◌≡◌, ◌≢◌, ℕ, ◌+◌, ◌≤◌, min, List, [], ◌∷◌, ◌++◌}
+use Rattle.std.specs.Prelude.{length, take, Option, None, is_some, true}
 use Rattle.std.specs.FinMap as map
 use Rattle.tree_model.specs.declared.ops.Op.{Op}
 use Rattle.tree_model.specs.declared.ops.Fill.{Fill}
@@ -26,8 +27,8 @@ LawByUsers = (opening : Opening) (tree : Tree) (op : Op) (user : ℕ) (before af
     → UserStands (opened_by opening) (after_op tree op) user (map.get after user)
     → StandsFor (opened_by opening) (after_op tree op) after
 
--- the operation, with any bytes if it is a write, leads from each tree that a stop can leave where the user stands for one
--- record to a tree where the user stands for another
+-- the operation, with any bytes if it is a write, leads from each tree that a stop can leave where the user stands
+-- for one record to a tree where the user stands for another
 abbrev pub KeepsUser : Meaning → Disk → Op → ℕ → Option Record → Option Record → Type 0
 KeepsUser meaning disk op user known known' = (left : Tree) (fill : Fill) → IsImage disk.stable disk.pending left
     → UserStands meaning left user known → UserStands meaning (after_op left (filled fill op)) user known'

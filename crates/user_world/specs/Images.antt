@@ -10,5 +10,6 @@ use Rattle.user_world.specs.Meaning.{Meaning, StandsFor}
 -- operations a stop keeps, with whatever bytes in their writes, stands for the changes up to there
 pub record ImagesStand (meaning : Meaning) (disk : Disk) (kept : ℕ) (log : List Change) : Type 0 where
   pub counted : length log ≡ kept + changes_in disk.stable disk.pending
-  pub stands : (keep : ℕ) (left : Tree) → keep ≤ length disk.pending → IsImage disk.stable (take keep disk.pending) left
+  pub stands : (keep : ℕ) (left : Tree) → keep ≤ length disk.pending
+      → IsImage disk.stable (take keep disk.pending) left
       → StandsFor meaning left (fold_changes (take (kept + changes_in disk.stable (take keep disk.pending)) log))

@@ -20,12 +20,14 @@ use Rattle.user_world.specs.Timelines.{Timeline, IsWorldOf, world_of, own_of, Ow
 use Rattle.user_world.specs.Timelines.{line_with, settled_line, stopped_line, still_line}
 use Rattle.user_world.specs.Turns.{StepShows}
 
--- a timeline shows one world; in it the user's part of the view, and what the changes make of the user, are the user's own
+-- a timeline shows one world; in it the user's part of the view, and what the changes make of the user, are the
+-- user's own
 pub record LooksSame (user : ℕ) (world : World) (line : Timeline) : Type 0 where
   pub one : world_of line ≡ world
   pub view : own_view (own user world) ≡ part_of (view line.disk) user
   pub known : own_record (own user world) ≡ map.get (fold_changes line.log) user
-  pub logged : (change : LocalChange) → Holds (Logged change) (own user world) → Contains line.log (change_of user change)
+  pub logged : (change : LocalChange) → Holds (Logged change) (own user world)
+      → Contains line.log (change_of user change)
   pub durable : Holds Durable (own user world) → NoChangeOf user (drop line.kept line.log)
 
 abbrev pub LawOfOneWorld : Type 0
@@ -41,11 +43,13 @@ LawOfProduct = (opening : Opening) (world : World) (line : Timeline) → IsWorld
 abbrev pub LawOfBase : Type 0
 LawOfBase = (opening : Opening) (base : Tree) (changes : List Change)
     → StandsFor (opened_by opening) base (fold_changes changes)
-    ↔ ((user : ℕ) → PartStands (opened_by opening) user (part_of base user) (known_through None (changes_for user changes)))
+    ↔ ((user : ℕ)
+    → PartStands (opened_by opening) user (part_of base user) (known_through None (changes_for user changes)))
 
 -- facts last, whatever happens between two turns of their user
 abbrev pub LawOfFacts : Type 0
-LawOfFacts = (facts : List Fact) (before after : OwnWorld) → Later before after → AllHold facts before → AllHold facts after
+LawOfFacts =
+    (facts : List Fact) (before after : OwnWorld) → Later before after → AllHold facts before → AllHold facts after
 
 -- a user's step keeps the whole; and where it failed, and put other bytes, too
 abbrev pub LawOfStep : Type 0
@@ -57,7 +61,8 @@ abbrev pub LawOfFailure : Type 0
 LawOfFailure = (opening : Opening) (line : Timeline) (user : ℕ) (step : Step) (next : List Fact) (fill : Fill)
     → OwnWorldsStand (opened_by opening) line → StepShows (opened_by opening) user (own_of user line) step next
     → step.note ≡ None
-    → LeadsTo (opened_by opening) user [] line (record line { disk = with_op line.disk (op_of user (filled_step fill step).op) })
+    → LeadsTo (opened_by opening) user [] line
+    (record line { disk = with_op line.disk (op_of user (filled_step fill step).op) })
 
 -- a sync of any task's settles each user's world
 pub record Settles (opening : Opening) (line : Timeline) : Type 0 where

@@ -1,5 +1,5 @@
--- When a user's part of a tree stands for the user's record, and a tree for a map of users. What a part has to hold is a
--- parameter that sees one user's part alone; most often it says what a directory opens to.
+-- When a user's part of a tree stands for the user's record, and a tree for a map of users. What a part has to hold
+-- is a parameter that sees one user's part alone; most often it says what a directory opens to.
 use Rattle.std.specs.Prelude.{◌≡◌, ℕ, List, [], Option, Some, None}
 use Rattle.std.specs.FinMap as map
 use Rattle.tree_model.specs.declared.places.Slot.{Slot}
@@ -40,11 +40,12 @@ OpensTo opening None (Some secret) key = ⊥
 OpensTo opening (Some files) None key = ⊥
 OpensTo opening (Some files) (Some secret) key = opening.opens files secret ≡ Some key
 
--- the device key's directory opens with the empty secret, and the credential key's directories are those of the recorded
--- slots and open with their secrets
+-- the device key's directory opens with the empty secret, and the credential key's directories are those of the
+-- recorded slots and open with their secrets
 pub record KeysStand (opening : Opening) (user : ℕ) (part : Part) (known : Record) : Type 0 where
   pub de : OpensTo opening (part De) (Some []) (opening.de_key user known.birth)
-  pub ce : (slot : Slot) → OpensTo opening (part (Ce slot)) (map.get known.secrets slot) (opening.ce_key user known.birth)
+  pub ce : (slot : Slot)
+      → OpensTo opening (part (Ce slot)) (map.get known.secrets slot) (opening.ce_key user known.birth)
 
 -- to stand is to open to the keys
 abbrev pub opened_by : Opening → Meaning

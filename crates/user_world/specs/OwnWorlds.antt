@@ -56,13 +56,15 @@ settled own = record { stable = own_view own; durable = own_log own; pending = [
 -- some part that a stop can leave of the steps, each write with any bytes
 abbrev pub IsOwnImage : Part → List Step → Part → Type 0
 IsOwnImage part [] left = left ≡ part
-IsOwnImage part (step ∷ steps) left = (fill : Fill) × IsOwnImage (after_local part (filled_local fill step.op)) steps left
+IsOwnImage part (step ∷ steps) left =
+    (fill : Fill) × IsOwnImage (after_local part (filled_local fill step.op)) steps left
 
 -- the part stands for the record, and so on after each step, whatever bytes its write leaves
 abbrev pub StandThrough : Meaning → ℕ → Part → Option Record → List Step → Type 0
 StandThrough meaning user part known [] = PartStands meaning user part known
 StandThrough meaning user part known (step ∷ steps) = PartStands meaning user part known
-    × ((fill : Fill) → StandThrough meaning user (after_local part (filled_local fill step.op)) (known_with known step.note) steps)
+    × ((fill : Fill)
+    → StandThrough meaning user (after_local part (filled_local fill step.op)) (known_with known step.note) steps)
 
 -- every part that a stop can leave of the user's world stands for the user's record up to there
 abbrev pub OwnImagesStand : Meaning → ℕ → OwnWorld → Type 0

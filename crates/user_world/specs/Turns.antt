@@ -7,7 +7,8 @@ use Rattle.journal_model.specs.declared.commands.Actor.TheVariants.{User}
 use Rattle.journal_model.specs.declared.commands.Reply.{Reply}
 use Rattle.journal_model.specs.declared.entries.Change.{Change}
 use Rattle.journal_model.specs.Command.{actor_of}
-use Rattle.journal_model.specs.Machine.{Running as Began, with_change, kind_of_reply, Success, AllowsChange, AllowsSuccess}
+use Rattle.journal_model.specs.Machine.{Running as Began, with_change, kind_of_reply}
+use Rattle.journal_model.specs.Machine.{Success, AllowsChange, AllowsSuccess}
 use Rattle.journal_model.specs.Users.{owner_of}
 use Rattle.user_world.specs.declared.changes.LocalChange.{LocalChange}
 use Rattle.user_world.specs.declared.turns.Call.{Call}
@@ -68,8 +69,8 @@ abbrev pub takes : Call → ℕ
 takes (Op owner op) = takes_local op
 takes call = 0
 
--- a task between two of its turns: whose it is, the facts that it rests on, what the machine has of its command, and how
--- many turns it has left at most
+-- a task between two of its turns: whose it is, the facts that it rests on, what the machine has of its command, and
+-- how many turns it has left at most
 pub record Rest : Type 1 where
   pub user : ℕ
   pub facts : List Fact
@@ -90,7 +91,8 @@ pub record Scene : Type 1 where
   pub own : OwnWorld
 
 -- what a task has to show of a call that it makes next
-pub record CallShows (scene : Scene) (rest : Rest) (call : Call) (change : Option LocalChange) (then : Rest) : Type 0 where
+pub record CallShows (scene : Scene) (rest : Rest) (call : Call) (change : Option LocalChange)
+    (then : Rest) : Type 0 where
   pub stands : CallStands scene.meaning rest.user scene.own call change then.facts
   pub may : IfSome change (λ local.
       AllowsChange scene.boot scene.began scene.began.command (change_of rest.user local))

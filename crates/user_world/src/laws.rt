@@ -8,7 +8,8 @@ pub fn law_of_locality()
     ensures { LawOfLocality }
 {}
 
-/// A tree stands for a map of users exactly user by user, so an operation on one user's places asks only for that user.
+/// A tree stands for a map of users exactly user by user, so an operation on one user's places asks only for that
+/// user.
 pub fn law_by_users()
     ensures { LawByUsers }
 {}

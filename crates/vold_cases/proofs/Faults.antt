@@ -17,7 +17,8 @@ only_word : (text word : List ℕ) → words_in text ≡ word ∷ [] → text �
 only_word text word e = sym (joined-words_in text) ∙ ap joined e ∙ append-nil word
 
 number_alone : (text : List ℕ) (n : ℕ) → n < 2 ^ 32 → text ≡ decimal n → words_in text ≡ decimal n ∷ []
-number_alone text n small e = ap words_in e ∙ words_in-alone (decimal n) (Lacks-ink 32 (decimal n) (omega arith) (IsInk-decimal n small))
+number_alone text n small e =
+    ap words_in e ∙ words_in-alone (decimal n) (Lacks-ink 32 (decimal n) (omega arith) (IsInk-decimal n small))
 
 same_number : (m n : ℕ) → m < 2 ^ 32 → n < 2 ^ 32 → decimal m ∷ [] ≡ decimal n ∷ [] → m ≡ n
 same_number m n small little e = decimal_injective m n (omega arith) (omega arith) (ap (λ ws. get_or ws 0 []) e)
@@ -33,7 +34,8 @@ two_words found word middle name text others behind first one second two =
 number_of_fault : (words : List (List ℕ)) (word name text : List ℕ) (fault : Planned)
     → words ≡ word ∷ name ∷ words_in text → words ≡ fault_words fault → words_in text ≡ decimal fault.call ∷ []
 number_of_fault words word name text fault split same =
-    let both : word ∷ name ∷ words_in text ≡ codes "plan" ∷ device_word fault.device ∷ decimal fault.call ∷ [] = sym split ∙ same in
+    let both : word ∷ name ∷ words_in text ≡ codes "plan" ∷ device_word fault.device ∷ decimal fault.call ∷ [] =
+    sym split ∙ same in
     cc
 
 pub no_fault-number : (words : List (List ℕ)) (word name text : List ℕ) → words ≡ word ∷ name ∷ words_in text

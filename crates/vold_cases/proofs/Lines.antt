@@ -13,7 +13,8 @@ use Rattle.script_text.proofs.Splits.{Lacks-from_reads, joined-words_in, words_i
 pub line_cut : (text : List ℕ) (cut : Option (Bor (List ℕ) × Bor (List ℕ))) → IsSplitOnceResult 10 text cut
     → IfSome cut (λ parts. Lacks 10 parts.0.now)
 line_cut text None uncut = tt
-line_cut text (Some parts) found = Lacks-from_reads 10 parts.0.now (split_parts 10 text (Some parts) found (omega arith)).1
+line_cut text (Some parts) found =
+    Lacks-from_reads 10 parts.0.now (split_parts 10 text (Some parts) found (omega arith)).1
 
 pub line_uncut : (text : List ℕ) (cut : Option (Bor (List ℕ) × Bor (List ℕ))) → IsSplitOnceResult 10 text cut
     → IfNone cut (Lacks 10 text)

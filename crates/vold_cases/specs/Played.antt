@@ -40,13 +40,16 @@ disk_of tree = tree.disk
 abbrev pub counts_of : Medium → Counts
 counts_of tree = tree.counts
 
--- a run of the script's text over the tree left so much of the text, and the sink, which had taken some bytes before, then
--- had these with what shows the Book
-abbrev pub ShowsRun : Medium → (script : List ℕ) → (left : Option (List ℕ)) → (taken taken' : List ℕ) → BookState Medium → Type 0
-ShowsRun tree script left taken taken' = RunPrints disk_of counts_of (new_book tree (opened_at (counts_of tree))) (Some script) left (Some taken) (Some taken')
+-- a run of the script's text over the tree left so much of the text, and the sink, which had taken some bytes before,
+-- then had these with what shows the Book
+abbrev pub ShowsRun : Medium → (script : List ℕ) → (left : Option (List ℕ)) → (taken taken' : List ℕ)
+    → BookState Medium → Type 0
+ShowsRun tree script left taken taken' =
+    RunPrints disk_of counts_of (new_book tree (opened_at (counts_of tree))) (Some script) left
+    (Some taken) (Some taken')
 
--- what a case prints: its run was made over a tree of which the planned calls fail, a source with the script's text and
--- a sink that had taken nothing; with no Book the run wrote its status's message, and else what shows the Book
+-- what a case prints: its run was made over a tree of which the planned calls fail, a source with the script's text
+-- and a sink that had taken nothing; with no Book the run wrote its status's message, and else what shows the Book
 pub record PrintsCase (one : Case) (text : List ℕ) : Type 0 where
   pub tree : Medium
   pub planned : IsPlannedTree one.faults.items tree

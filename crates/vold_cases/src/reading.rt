@@ -1,8 +1,8 @@
 ghost use Rattle.std.specs.Prelude.{◌≡◌, ◌++◌, ◌∷◌, ⊤, IfOk, IfSome, IfNone, All, map, flat_map, option_copied};
 ghost use Rattle.std.specs.String.{string_bytes};
 ghost use Rattle.script_text.specs.Reading.{words_in, words_after, Lacks, Reads};
-ghost use Rattle.vold_cases.specs.Case.{case_text, device_word, fault_line, fault_text, fault_words, head_words, ends_case};
-ghost use Rattle.vold_cases.specs.Case.{IsCase, IsNoHead, IsPlanned, IsScriptText};
+ghost use Rattle.vold_cases.specs.Case.{case_text, device_word, fault_line, fault_text, fault_words, head_words};
+ghost use Rattle.vold_cases.specs.Case.{ends_case, IsCase, IsNoHead, IsPlanned, IsScriptText};
 
 use crate::case::{Case, Device, Planned};
 use crate::refusal::{Refusal, Wrong};

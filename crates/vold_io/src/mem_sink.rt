@@ -1,4 +1,5 @@
-ghost use Rattle.std.specs.Prelude.{◌<◌, ◌≡◌, ◌≤◌, ◌↔◌, ◌++◌, [], length, take, IfOk, IsErrOf, IsNone, OnErr, OnOk, Some};
+ghost use Rattle.std.specs.Prelude.{◌<◌, ◌≡◌, ◌≤◌, ◌↔◌, ◌++◌, [], length, take};
+ghost use Rattle.std.specs.Prelude.{IfOk, IsErrOf, IsNone, OnErr, OnOk, Some};
 ghost use Rattle.tree_model.specs.Counted.{one_more};
 ghost use Rattle.vold_io.specs.Counted.{CountsFaults};
 
@@ -20,11 +21,17 @@ impl Model for MemSink {
 
     ghost Value = { SinkState };
 
-    ghost view = { λ sink. record { taken = sink.bytes.items; calls = sink.plan.calls; faults = sink.plan.faults; fail_at = sink.plan.fail_at } };
+    ghost view = { λ sink. record {
+      taken = sink.bytes.items;
+      calls = sink.plan.calls;
+      faults = sink.plan.faults;
+      fail_at = sink.plan.fail_at;
+    } };
 }
 
 impl MemSink {
-    /// An empty sink. The write of number `fail_at`, counted from 0, fails; one for which memory runs out has no number.
+    /// An empty sink. The write of number `fail_at`, counted from 0, fails; one for which memory runs out has no
+    /// number.
     pub fn new(alloc: Global, fail_at: Option<u64>) -> MemSink
         ensures { result ≡ record { taken = []; calls = 0; faults = 0; fail_at = fail_at } }
     {
@@ -70,8 +77,10 @@ impl Sink for MemSink {
         ensures steady { IsNone self.old.fail_at → IsNone self.new.fail_at × ¬ (IsErrOf result SinkFault.Failed) }
 
         ensures fails { IsErrOf result SinkFault.Failed ↔ (self.old.fail_at ≡ Some self.old.calls) }
-        ensures ok { OnOk result (self.new ≡ record self.old { taken = self.old.taken ++ bytes.now; calls = one_more self.old.calls }) }
-        ensures failed { IsErrOf result SinkFault.Failed → self.new ≡ record self.old { calls = one_more self.old.calls; faults = one_more self.old.faults } }
+        ensures ok { OnOk result
+            (self.new ≡ record self.old { taken = self.old.taken ++ bytes.now; calls = one_more self.old.calls }) }
+        ensures failed { IsErrOf result SinkFault.Failed
+            → self.new ≡ record self.old { calls = one_more self.old.calls; faults = one_more self.old.faults } }
         ensures no_memory { IsErrOf result SinkFault.NoMemory → self.new ≡ self.old }
     {
         if self.plan.is_due() {

@@ -1,4 +1,5 @@
-ghost use Rattle.std.specs.Prelude.{◌<◌, ◌≡◌, ◌≤◌, ◌↔◌, ◌++◌, min, drop, length, take, IfOk, IfSome, IsErr, IsNone, IsOk, OnErr, Some, []};
+ghost use Rattle.std.specs.Prelude.{◌<◌, ◌≡◌, ◌≤◌, ◌↔◌, ◌++◌, min, drop, length, take, IfOk, IfSome, IsErr, IsNone};
+ghost use Rattle.std.specs.Prelude.{IsOk, OnErr, Some, []};
 ghost use Rattle.tree_model.specs.Counted.{one_more};
 ghost use Rattle.vold_io.specs.Counted.{CountsFaults};
 
@@ -21,7 +22,12 @@ impl Model for MemSource {
 
     ghost Value = { SourceState };
 
-    ghost view = { λ source. record { rest = drop source.position source.bytes; calls = source.plan.calls; faults = source.plan.faults; fail_at = source.plan.fail_at } };
+    ghost view = { λ source. record {
+      rest = drop source.position source.bytes;
+      calls = source.plan.calls;
+      faults = source.plan.faults;
+      fail_at = source.plan.fail_at;
+    } };
 
     ghost invariant = { λ source. source.position ≤ length source.bytes };
 }
@@ -56,8 +62,11 @@ impl Source for MemSource {
 
         ensures fails { IsErr result ↔ (self.old.fail_at ≡ Some self.old.calls) }
         ensures count { IfOk result (λ count. count ≡ min (length buf.old) (length self.old.rest)) }
-        ensures ok { IfOk result (λ count. self.new ≡ record self.old { rest = drop count self.old.rest; calls = one_more self.old.calls }) }
-        ensures failed { OnErr result (self.new ≡ record self.old { calls = one_more self.old.calls; faults = one_more self.old.faults }) }
+        ensures ok { IfOk result
+            (λ count. self.new
+            ≡ record self.old { rest = drop count self.old.rest; calls = one_more self.old.calls }) }
+        ensures failed { OnErr result
+            (self.new ≡ record self.old { calls = one_more self.old.calls; faults = one_more self.old.faults }) }
     {
         if self.plan.is_due() {
             self.plan.count_fault();

@@ -37,7 +37,8 @@ impl Plan {
 
     /// Counts a call that failed.
     pub fn count_fault(&mut self)
-        ensures counted { self.new ≡ record self.old { calls = one_more self.old.calls; faults = one_more self.old.faults } }
+        ensures counted { self.new
+            ≡ record self.old { calls = one_more self.old.calls; faults = one_more self.old.faults } }
         ensures never_falls { self.old.faults ≤ self.new.faults }
         ensures rose { Rose self.old.faults self.new.faults }
     {

@@ -40,8 +40,8 @@ pub trait Sink: Drop {
     ///
     /// # Errors
     ///
-    /// `Failed` where the write failed, and the count of faults rose; `NoMemory` where memory ran out. Nothing was taken
-    /// then.
+    /// `Failed` where the write failed, and the count of faults rose; `NoMemory` where memory ran out. Nothing was
+    /// taken then.
     fn write(&mut self, bytes: &[u8]) -> Result<usize, SinkFault>
         ensures bound { IfOk result (λ count. count ≤ length bytes.now) }
         ensures progress { IfOk result (λ count. 0 < length bytes.now → 0 < count) }
@@ -49,7 +49,8 @@ pub trait Sink: Drop {
         ensures kept { OnErr result (taken self.new ≡ taken self.old) }
         ensures faults { CountsFaults (IsErrOf result SinkFault.Failed) (fault_count self.old) (fault_count self.new) }
         ensures steady { never_fails self.old → never_fails self.new × ¬ (IsErrOf result SinkFault.Failed) }
-        ensures sparing { wants_no_memory self.old → wants_no_memory self.new × ¬ (IsErrOf result SinkFault.NoMemory) };
+        ensures sparing { wants_no_memory self.old
+            → wants_no_memory self.new × ¬ (IsErrOf result SinkFault.NoMemory) };
 
     /// How many calls failed. The count stays at `u64::MAX` once it is there.
     fn faults(&self) -> u64

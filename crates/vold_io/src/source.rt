@@ -1,5 +1,6 @@
 ghost use Rattle.std.specs.Io.KnownBytes.{prepend_known};
-ghost use Rattle.std.specs.Prelude.{◌<◌, ◌≡◌, ◌≤◌, ◌↔◌, ℕ, List, [], length, take, IfOk, IfSome, IsErr, IsOk, Option, OnErr};
+ghost use Rattle.std.specs.Prelude.{◌<◌, ◌≡◌, ◌≤◌, ◌↔◌, ℕ, List, [], length, take};
+ghost use Rattle.std.specs.Prelude.{IfOk, IfSome, IsErr, IsOk, Option, OnErr};
 ghost use Rattle.vold_io.specs.Counted.{CountsFaults};
 
 /// A read that failed. What comes of it is the caller's to decide.
@@ -17,8 +18,8 @@ pub trait Source: Drop {
     // no call fails from here on
     ghost never_fails: { Self → Type 0 };
 
-    /// Reads the next bytes into the front of `buf`, and answers how many they are. For a buffer that is not empty, 0 is
-    /// the end.
+    /// Reads the next bytes into the front of `buf`, and answers how many they are. For a buffer that is not empty, 0
+    /// is the end.
     ///
     /// # Errors
     ///
@@ -26,7 +27,8 @@ pub trait Source: Drop {
     fn read(&mut self, buf: &mut [u8]) -> Result<usize, Failed>
         ensures bound { IfOk result (λ count. count ≤ length buf.new) }
         ensures taken { IfOk result (λ count. rest self.old ≡ prepend_known (take count buf.new) (rest self.new)) }
-        ensures end { IfOk result (λ count. 0 < length buf.new → IfSome (rest self.old) (λ bytes. (count ≡ 0) ↔ (bytes ≡ []))) }
+        ensures end { IfOk result
+            (λ count. 0 < length buf.new → IfSome (rest self.old) (λ bytes. (count ≡ 0) ↔ (bytes ≡ []))) }
         ensures kept { OnErr result (rest self.new ≡ rest self.old) }
         ensures faults { CountsFaults (IsErr result) (fault_count self.old) (fault_count self.new) }
         ensures steady { never_fails self.old → never_fails self.new × IsOk result };

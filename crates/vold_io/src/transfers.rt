@@ -2,7 +2,8 @@ ghost use Rattle.std.specs.Io.KnownBytes.{append_known, prepend_known, IsAtEnd};
 ghost use Rattle.std.specs.Prelude.{◌<◌, ◌≡◌, ◌≤◌, ◌++◌, ℕ, List, length, take, vec_len, IfOk, IsErrOf, OnErr, OnOk};
 ghost use Rattle.vold_io.specs.Counted.{CountsFaults};
 ghost use Rattle.vold_io.specs.Transfers.{AddsFront, LosesAtMost};
-ghost use Rattle.vold_io.specs.declared.transfers.ReadFault.TheVariants.{Failed as ReadFailed, NoMemory as WantsMemory};
+ghost use Rattle.vold_io.specs.declared.transfers.ReadFault.TheVariants.{Failed as ReadFailed};
+ghost use Rattle.vold_io.specs.declared.transfers.ReadFault.TheVariants.{NoMemory as WantsMemory};
 
 use crate::sink::{Sink, SinkFault};
 use crate::source::{Failed, Source};
@@ -53,7 +54,8 @@ pub fn read_at_most<S: Source>(
     ensures taken { IfOk result (λ bytes. S.rest source.old ≡ prepend_known bytes.items (S.rest source.new)) }
     ensures whole { IfOk result (λ bytes. vec_len bytes < limit → IsAtEnd (S.rest source.new)) }
     ensures at_most { LosesAtMost limit (S.rest source.old) (S.rest source.new) }
-    ensures faults { CountsFaults (IsErrOf result ReadFault.Failed) (S.fault_count source.old) (S.fault_count source.new) }
+    ensures faults { CountsFaults (IsErrOf result ReadFault.Failed) (S.fault_count source.old)
+        (S.fault_count source.new) }
     ensures steady { S.never_fails source.old → S.never_fails source.new × ¬ (IsErrOf result ReadFault.Failed) }
 {
     let mut bytes = Vec::new(alloc);
@@ -81,8 +83,8 @@ fn append(bytes: &mut Vec<u8>, more: &[u8]) -> Result<(), NoMemory>
 ///
 /// # Errors
 ///
-/// `Failed` where a write failed, and the sink's count of faults rose; `NoMemory` where memory ran out for the sink, since
-/// nothing else wants any. The sink took a front of the bytes then.
+/// `Failed` where a write failed, and the sink's count of faults rose; `NoMemory` where memory ran out for the sink,
+/// since nothing else wants any. The sink took a front of the bytes then.
 pub fn write_all<K: Sink>(sink: &mut K, bytes: &[u8]) -> Result<(), SinkFault>
     ensures all { OnOk result (K.taken sink.new ≡ append_known (K.taken sink.old) bytes.now) }
     ensures front { OnErr result (AddsFront bytes.now (K.taken sink.old) (K.taken sink.new)) }

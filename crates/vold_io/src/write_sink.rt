@@ -7,8 +7,8 @@ use crate::sink::{Sink, SinkFault};
 use std::io::Write;
 use std::marker::Model;
 
-/// A sink over a writer of std. Each error of the writer is a fault, also that of an interrupted call, and so is a write
-/// that takes nothing of a piece that is not empty.
+/// A sink over a writer of std. Each error of the writer is a fault, also that of an interrupted call, and so is a
+/// write that takes nothing of a piece that is not empty.
 #[derive(Drop)]
 pub struct WriteSink<W> {
     inner: W,

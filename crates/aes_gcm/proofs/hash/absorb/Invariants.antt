@@ -5,4 +5,5 @@ use Rattle.aes_gcm.specs.Hash.{Adds}
 use Rattle.aes_gcm.proofs.hash.absorb.Given as goal
 
 abbrev pub invariant-loop-index : goal.invariant-loop-index
-invariant-loop-index l = Adds (bits 128 l.h) (bits 128 l.sum) (bits 128 l.total) (map polynomial_of (first_blocks l.index l.bytes))
+invariant-loop-index l =
+    Adds (bits 128 l.h) (bits 128 l.sum) (bits 128 l.total) (map polynomial_of (first_blocks l.index l.bytes))

@@ -1,4 +1,5 @@
-use Rattle.std.proofs.Common.{◌≡◌, ℕ, ◌+◌, ◌<◌, ◌-◌, Bool, List, [], ◌∷◌, length, slice_index, bit_xor, sym, ◌∙◌, ap, arith}
+use Rattle.std.proofs.Common.{◌≡◌, ℕ, ◌+◌, ◌<◌, ◌-◌, Bool, List, [], ◌∷◌, length}
+use Rattle.std.proofs.Common.{slice_index, bit_xor, sym, ◌∙◌, ap, arith}
 use Rattle.seal_model.specs.Polynomial.{add, bits}
 use Rattle.seal_model.specs.Gcm.{field_product, polynomial_of, power}
 use Rattle.seal_model.proofs.Bits.{bits-xor, length-bits}

@@ -1,12 +1,13 @@
 use Rattle.std.proofs.Common.{◌∷◌, [], ◌++◌}
 use Rattle.std.proofs.lemmas.Result.{on_ok_weaker, on_err_weaker}
 use Rattle.sorted_map.specs.Maps.{held}
-use Rattle.docket.proofs.Queues.{there-aside, changes-queue, keeps-queue}
+use Rattle.sorted_map.proofs.Maps.{there-insert}
+use Rattle.docket.proofs.Queues.{changes-queue, keeps-queue}
 use Rattle.docket.proofs.waiting.add.Goals as goal
 
 pub replace-requires : goal.replace-requires
 replace-requires g c =
-    there-aside g.met.A.Ord.total g.met.A.ExactOrd.exact _ _ c.args.actor _ c.replace-queue.ensures.held
+    there-insert g.met.A.Ord.total g.met.A.ExactOrd.exact _ _ c.args.actor _ c.replace-queue.ensures.held
 
 pub returns-then-contains_key-clause-added : goal.returns-then-contains_key-clause-added
 returns-then-contains_key-clause-added g c = on_ok_weaker c.push-pushed.result (changes-queue

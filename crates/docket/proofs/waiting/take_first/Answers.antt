@@ -1,11 +1,12 @@
 use Rattle.std.proofs.Common.{sym, ◌∙◌}
 use Rattle.std.proofs.lemmas.Bool.{false≢true}
-use Rattle.docket.proofs.Queues.{there-aside, drops-last, drops-one}
+use Rattle.sorted_map.proofs.Maps.{there-insert}
+use Rattle.docket.proofs.Queues.{drops-last, drops-one}
 use Rattle.docket.proofs.waiting.take_first.Goals as goal
 
 pub replace-requires : goal.replace-requires
 replace-requires g c =
-    there-aside g.met.A.Ord.total g.met.A.ExactOrd.exact _ _ c.args.actor _ c.replace-queue.ensures.held
+    there-insert g.met.A.Ord.total g.met.A.ExactOrd.exact _ _ c.args.actor _ c.replace-queue.ensures.held
 
 pub returns-then-is_empty : goal.returns-then-is_empty
 returns-then-is_empty g c = drops-last g.met.A.Ord.total g.met.A.ExactOrd.exact _ _ _ c.args.actor _ _

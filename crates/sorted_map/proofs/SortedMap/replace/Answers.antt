@@ -1,12 +1,10 @@
 use Rattle.std.proofs.Common.{◌≡◌, length, get_or, sym, ap, ◌∙◌, subst, arith}
-use Rattle.std.specs.Prelude.{is_some}
+use Rattle.std.specs.Prelude.{IsSome}
 use Rattle.std.specs.FinMap as map
 use Rattle.std.specs.List.Sorted.{IsStrictlySortedBy}
-use Rattle.std.proofs.lemmas.Bool.{false≢true}
 use Rattle.sorted_map.specs.Maps.{held}
-use Rattle.sorted_map.specs.Rows.{StandsAt, BelongsAt}
 use Rattle.sorted_map.proofs.Places.{rising, stands-within, aligned-written}
-use Rattle.sorted_map.proofs.Held.{get-held, get-absent, held-written}
+use Rattle.sorted_map.proofs.Held.{get-held, not-there, held-written}
 use Rattle.sorted_map.proofs.SortedMap.replace.Goals as goal
 
 pub place-requires : goal.place-requires
@@ -19,30 +17,25 @@ index_mut-requires g c =
 
 pub invariant_of-self : goal.invariant_of-self
 invariant_of-self g c =
-    let stands = subst (λ keys. StandsAt g.K.Ord.cmp c.args.key keys c.in-Ok.at) c.as_slice.ensures.value
-    c.in-Ok.ensures.there in
-    aligned-written g.met.K.Ord.total c.self.invariant c.args.key c.in-Ok.at stands _ _ c.replace.ensures.after
+    aligned-written g.met.K.Ord.total c.self.invariant c.as_slice.ensures.value c.args.key c.in-Ok.at
+    c.in-Ok.ensures.there _ _ c.replace.ensures.after
 
 pub unreachable-requires : goal.unreachable-requires
 unreachable-requires g c =
-    let belongs = subst (λ keys. BelongsAt g.K.Ord.cmp c.args.key keys c.in-Err.field-0) c.as_slice.ensures.value
-    c.in-Err.ensures.absent in
-    let none = ap (λ stored. map.get (held g.K.Ord.cmp stored) c.args.key) (sym c.self.view_is)
-    ∙ get-absent g.met.K.Ord.total c.self.invariant c.args.key c.in-Err.field-0 belongs in
-    false≢true (sym (ap is_some none) ∙ c.requires)
+    not-there g.met.K.Ord.total c.self.invariant c.as_slice.ensures.value c.args.key c.in-Err.field-0
+    c.in-Err.ensures.absent
+    (subst (λ stored. IsSome (map.get (held g.K.Ord.cmp stored) c.args.key)) (sym c.self.view_is) c.requires)
 
 pub returns-clause-value : goal.returns-clause-value
 returns-clause-value g c =
-    let stands = subst (λ keys. StandsAt g.K.Ord.cmp c.args.key keys c.in-Ok.at) c.as_slice.ensures.value
-    c.in-Ok.ensures.there in
     let read = subst (λ v. v ≡ get_or c.self.inside.values.items c.in-Ok.at v) (sym c.replace.ensures.value)
     c.index_mut.ensures.value in
     ap (λ stored. map.get (held g.K.Ord.cmp stored) c.args.key) (sym c.self.view_is)
-    ∙ get-held g.met.K.Ord.total c.self.invariant c.args.key c.in-Ok.at _ stands read
+    ∙ get-held g.met.K.Ord.total c.self.invariant c.as_slice.ensures.value c.args.key c.in-Ok.at _
+    c.in-Ok.ensures.there read
 
 pub returns-clause-held : goal.returns-clause-held
 returns-clause-held g c =
-    let stands = subst (λ keys. StandsAt g.K.Ord.cmp c.args.key keys c.in-Ok.at) c.as_slice.ensures.value
-    c.in-Ok.ensures.there in
-    held-written g.met.K.Ord.total c.self.invariant c.args.key c.in-Ok.at stands _ _ c.replace.ensures.after
+    held-written g.met.K.Ord.total c.self.invariant c.as_slice.ensures.value c.args.key c.in-Ok.at
+    c.in-Ok.ensures.there _ _ c.replace.ensures.after
     ∙ ap (λ stored. map.insert (held g.K.Ord.cmp stored) c.args.key c.args.value) c.self.view_is

@@ -26,7 +26,8 @@ returns c =
       left = Some left;
       done = λ ended.
           subst (λ rest. IsSomeAnd book (ShowsRun tree rest (Some left) [] written)) script
-          (subst (λ taken. IsSomeAnd book (ShowsRun tree c.new-source.result.rest (Some left) taken written)) none (c.run-end.ensures.done ended));
+          (subst (λ taken. IsSomeAnd book (ShowsRun tree c.new-source.result.rest (Some left) taken written)) none
+          (c.run-end.ensures.done ended));
       message = λ has.
           let told : Some written ≡ Some ([] ++ message_of status) = subst
           (λ taken. Some written ≡ Some (taken ++ message_of status)) none

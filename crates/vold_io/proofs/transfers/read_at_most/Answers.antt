@@ -6,5 +6,9 @@ pub returns-in_err-append-clause-at_most : goal.returns-in_err-append-clause-at_
 returns-in_err-append-clause-at_most g c =
     let piece = take c.in_ok-count.count c.read.new.buf in
     let asked : length c.read.new.buf ≤ c.min-room.result = search rules in
-    let room : length c.loop-buffer.bytes.items + length c.read.new.buf ≤ c.args.limit = omega (arith, c.loop-buffer.bytes.ok.0) in
-    (c.loop-buffer.bytes.items ++ piece, length-with_piece _ _ _ _ c.in_ok-count.ensures.bound room, prepend-piece _ _ _ _ _ c.loop-buffer.invariant.taken c.in_ok-count.ensures.taken)
+    let room : length c.loop-buffer.bytes.items + length c.read.new.buf ≤ c.args.limit =
+    omega (arith, c.loop-buffer.bytes.ok.0) in (
+      c.loop-buffer.bytes.items ++ piece,
+      length-with_piece _ _ _ _ c.in_ok-count.ensures.bound room,
+      prepend-piece _ _ _ _ _ c.loop-buffer.invariant.taken c.in_ok-count.ensures.taken,
+    )

@@ -15,8 +15,14 @@ loop-i-preserved c =
       simp length-set inv.0,
       inv.1,
       schedule-step c.loop-i.words c.args.key.now c.if-i-lt8.words c.loop-i.i (omega arith) inv.2
-          (λ below. elim c.if-i-lt8.branch [ then-i-lt8 w ↦ w.words-is ∙ w.key_word.ensures | else-i-lt8 w ↦ absurd (omega arith) ])
-          (λ above. elim c.if-i-lt8.branch [ then-i-lt8 w ↦ absurd (omega arith) | else-i-lt8 w ↦ w.words-is ∙ w.next_word.ensures ]),
+          (λ below. elim c.if-i-lt8.branch [
+            | then-i-lt8 w ↦ w.words-is ∙ w.key_word.ensures
+            | else-i-lt8 w ↦ absurd (omega arith)
+          ])
+          (λ above. elim c.if-i-lt8.branch [
+            | then-i-lt8 w ↦ absurd (omega arith)
+            | else-i-lt8 w ↦ w.words-is ∙ w.next_word.ensures
+          ]),
     )
 
 pub invariant_of-result : goal.invariant_of-result

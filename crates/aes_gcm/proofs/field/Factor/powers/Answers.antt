@@ -2,7 +2,7 @@ use Rattle.std.proofs.Common.{◌≡◌, ◌-◌, List, ℕ, [], ◌∷◌, slic
 use Rattle.seal_model.specs.Polynomial.{bits}
 use Rattle.seal_model.specs.Gcm.{power}
 use Rattle.seal_model.proofs.Bits.{length-bits}
-use Rattle.seal_model.proofs.BlockField.{one_field_product}
+use Rattle.seal_model.proofs.BlockField.{block_ring}
 use Rattle.seal_model.proofs.Lists.{each_below}
 use Rattle.aes_gcm.proofs.Products.{next_power}
 use Rattle.aes_gcm.proofs.field.Factor.powers.Goals as goal
@@ -16,7 +16,7 @@ returns c =
     ∷ c.times-power_4.result
     ∷ c.times-power_3.result ∷ c.times-power_2.result ∷ c.self.inside.element ∷ [] in
     let e1 : bits 128 c.self.inside.element ≡ power h 1 =
-    ap (bits 128) c.self.view_is ∙ sym (one_field_product h (length-bits 128 c.args.self.now)) in
+    ap (bits 128) c.self.view_is ∙ sym (block_ring.has_one h (length-bits 128 c.args.self.now)) in
     let e2 : bits 128 c.times-power_2.result ≡ power h 2 = next_power h _ _ 1 c.times-power_2.ensures e1 in
     let e3 : bits 128 c.times-power_3.result ≡ power h 3 = next_power h _ _ 2 c.times-power_3.ensures e2 in
     let e4 : bits 128 c.times-power_4.result ≡ power h 4 = next_power h _ _ 3 c.times-power_4.ensures e3 in

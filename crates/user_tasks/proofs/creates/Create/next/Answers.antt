@@ -1,7 +1,7 @@
 use Rattle.std.proofs.Common.{ap, ◌∙◌}
 use Rattle.user_tasks.specs.declared.creates.Stage.TheVariants.{Settled}
-use Rattle.user_tasks.proofs.CreateTurns.{clear-turn, make_ce-turn, version-turn, key-turn, rename_ce-turn, make_de-turn}
-use Rattle.user_tasks.proofs.CreateTurns.{rename_de-turn}
+use Rattle.user_tasks.proofs.CreateTurns.{clear-turn, make_ce-turn, version-turn, key-turn}
+use Rattle.user_tasks.proofs.CreateTurns.{rename_ce-turn, make_de-turn, rename_de-turn}
 use Rattle.user_tasks.proofs.creates.Create.next.Goals as goal
 
 pub returns-in-Some : goal.returns-in-Some
