@@ -1,19 +1,18 @@
 -- Durable changes stay: entry by entry, and of a create that was answered.
-use Rattle.std.proofs.Common.{◌≡◌, ◌≢◌, ℕ, ◌≤◌, List, [], ◌∷◌, ◌++◌, length, take, inl, inr, refl, sym, ap, ◌∙◌, subst, arith, append_assoc, length-append}
-use Rattle.std.specs.Prelude.{drop, min, Option, Some, None, IsSomeAnd, Contains}
+use Rattle.std.proofs.Common.{◌≡◌, ◌≢◌, ℕ, ◌≤◌, List, [], ◌∷◌, ◌++◌, length, take, inl, inr, refl, sym, ap, ◌∙◌}
+use Rattle.std.proofs.Common.{subst, arith, append_assoc, length-append}
+use Rattle.std.specs.Prelude.{drop, Option, Some, None, IsSomeAnd, Contains}
 use Rattle.std.specs.FinMap as map
 use Rattle.std.proofs.lemmas.List.{append-nil, take-append-drop, take-append-le, take_all, length-take-le}
 use Rattle.std.proofs.lemmas.List.Elements.{Contains-push_cases, Contains-append_cases}
-use Rattle.journal_model.specs.declared.commands.Command.TheVariants.{Create}
-use Rattle.journal_model.specs.declared.commands.Reply.{Reply}
 use Rattle.journal_model.specs.declared.commands.Reply.TheVariants.{Done}
 use Rattle.journal_model.specs.declared.entries.Change.{Change}
 use Rattle.journal_model.specs.declared.entries.Change.TheVariants.{Create as Created}
 use Rattle.journal_model.specs.declared.entries.Entry.{Entry}
 use Rattle.journal_model.specs.declared.entries.Entry.TheVariants.{Began, Changed, Synced, Stopped, Restarted, Replied}
 use Rattle.journal_model.specs.Users.{owner_of}
-use Rattle.journal_model.specs.Machine.{Machine, Running, first_machine, after_entry, machine_from, NoChangeOf, AllowsReply}
-use Rattle.journal_model.specs.Machine.{AllowsSuccess, IsDurable, MayCome, IsLegal, IsLegalFrom}
+use Rattle.journal_model.specs.Machine.{Machine, Running, first_machine, after_entry, machine_from, NoChangeOf}
+use Rattle.journal_model.specs.Machine.{AllowsReply, AllowsSuccess, IsDurable, MayCome, IsLegal, IsLegalFrom}
 use Rattle.journal_model.specs.Durable.{durable_changes, IsFront, Survive, LawOfCreated}
 
 -- no more changes are durable than there are
@@ -21,22 +20,28 @@ abbrev IsCounted : Machine → Type 0
 IsCounted machine = machine.kept ≤ length machine.log
 
 -- fewer of a list come first among more of it
-fronts : {A : Type 0} (few more : ℕ) (all : List A) → few ≤ more → more ≤ length all → IsFront (take few all) (take more all)
-fronts {A} few more all less within =
-    (drop few (take more all), sym (take-append-drop few (take more all)) ∙ ap (λ front. front ++ drop few (take more all)) same)
+fronts : {A : Type 0} (few more : ℕ) (all : List A) → few ≤ more → more ≤ length all
+    → IsFront (take few all) (take more all)
+fronts {A} few more all less within = (
+  drop few (take more all),
+  sym (take-append-drop few (take more all))
+      ∙ ap (λ front. front ++ drop few (take more all)) same,
+)
   where
     rest : List A
     rest = drop more all
 
     same : take few (take more all) ≡ take few all
     same =
-        sym (take-append-le few (take more all) rest (subst (λ n. few ≤ n) (sym (length-take-le more all within)) less))
+        sym (take-append-le few (take more all) rest
+        (subst (λ n. few ≤ n) (sym (length-take-le more all within)) less))
         ∙ ap (take few) (take-append-drop more all)
 
 survive-same : (machine after : Machine) → after.kept ≡ machine.kept → after.log ≡ machine.log → Survive machine after
 survive-same machine after kept log = record {
   fewer = omega (arith, kept);
-  first = ([], ap (λ n. take n after.log) kept ∙ ap (take machine.kept) log ∙ sym (append-nil (durable_changes machine)));
+  first =
+      ([], ap (λ n. take n after.log) kept ∙ ap (take machine.kept) log ∙ sym (append-nil (durable_changes machine)));
 }
 
 survive-later : (first second third : Machine) → Survive first second → Survive second third → Survive first third
@@ -57,7 +62,11 @@ step before machine (Changed number change) counted may = (
   omega (arith, counted, length-append machine.log (change ∷ [])),
   record {
     fewer = omega arith;
-    first = ([], take-append-le machine.kept machine.log (change ∷ []) counted ∙ sym (append-nil (durable_changes machine)));
+    first = (
+      [],
+      take-append-le machine.kept machine.log (change ∷ []) counted
+          ∙ sym (append-nil (durable_changes machine)),
+    );
   },
 )
 step before machine Synced counted may = (
@@ -71,14 +80,16 @@ step before machine (Stopped kept) counted may =
       omega (arith, cut),
       record {
         fewer = may.1;
-        first = subst (IsFront (durable_changes machine)) (sym again) (fronts machine.kept kept machine.log may.1 may.2);
+        first =
+            subst (IsFront (durable_changes machine)) (sym again) (fronts machine.kept kept machine.log may.1 may.2);
       },
     )
 step before machine (Restarted boot level) counted may = (counted, survive-same machine _ refl refl)
 step before machine (Replied number reply) counted may = (counted, survive-same machine _ refl refl)
 
 -- further entries
-steps : (before : List Entry) (machine : Machine) (more : List Entry) → IsCounted machine → IsLegalFrom before machine more
+steps : (before : List Entry) (machine : Machine) (more : List Entry) → IsCounted machine
+    → IsLegalFrom before machine more
     → Survive machine (machine_from before machine more)
 steps before machine [] counted legal = survive-same machine machine refl refl
 steps before machine (entry ∷ more) counted legal =
@@ -101,16 +112,18 @@ pub survives : (entries more : List Entry) → IsLegal (entries ++ more)
 survives entries more legal = behind [] first_machine entries more (omega arith) legal
 
 -- what has no change of a user has none that is the user's
-another-change : (user : ℕ) (changes : List Change) (change : Change) → NoChangeOf user changes → Contains changes change
+another-change : (user : ℕ) (changes : List Change) (change : Change)
+    → NoChangeOf user changes → Contains changes change
     → owner_of change ≢ user
 another-change user [] change none there = absurd (omega (arith, there.1))
-another-change user (first ∷ changes) change none there = elim (Contains-append_cases (first ∷ []) changes change there) [
-  | inl one ↦ elim (Contains-push_cases [] first change one) [
-    | inl nothing ↦ absurd (omega (arith, nothing.1))
-    | inr is ↦ λ mine. none.0 (ap owner_of is ∙ mine)
-  ]
-  | inr rest ↦ another-change user changes change none.1 rest
-]
+another-change user (first ∷ changes) change none there =
+    elim (Contains-append_cases (first ∷ []) changes change there) [
+      | inl one ↦ elim (Contains-push_cases [] first change one) [
+        | inl nothing ↦ absurd (omega (arith, nothing.1))
+        | inr is ↦ λ mine. none.0 (ap owner_of is ∙ mine)
+      ]
+      | inr rest ↦ another-change user changes change none.1 rest
+    ]
 
 pub created : LawOfCreated
 created entries number user running at is none may = told (allowed (map.get machine.running number) at may)
@@ -122,14 +135,16 @@ created entries number user running at is none may = told (allowed (map.get mach
     change = Created user (record { boot = machine.boot; index = running.index })
 
     allowed : (found : Option Running) → found ≡ Some running
-        → IsSomeAnd found (λ r. AllowsReply machine r r.verdict Done) → AllowsReply machine running running.verdict Done
+        → IsSomeAnd found (λ r. AllowsReply machine r r.verdict Done)
+        → AllowsReply machine running running.verdict Done
     allowed None e h = absurd h
     allowed (Some r) e h = let same : r ≡ running = cc in subst (λ r. AllowsReply machine r r.verdict Done) same h
 
     told : AllowsReply machine running running.verdict Done → Contains (durable_changes machine) change
     told allows =
         let success : Contains machine.log change × NoChangeOf user (drop machine.kept machine.log) =
-        subst (λ command. AllowsSuccess (Contains machine.log) (IsDurable machine) machine.boot running command Done) is
+        subst (λ command. AllowsSuccess (Contains machine.log) (IsDurable machine) machine.boot running command Done)
+        is
         (subst (λ verdict. AllowsReply machine running verdict Done) none allows) in
         elim (Contains-append_cases (durable_changes machine) (drop machine.kept machine.log) change
         (subst (λ log. Contains log change) (sym (take-append-drop machine.kept machine.log)) success.0)) [

@@ -1,6 +1,7 @@
+pub mod ByCommand
 pub mod Durable
 pub mod Folds
 pub mod Records
-pub mod RefusalKinds
+pub mod SealedKeys
 pub mod Steps
 pub mod Streams

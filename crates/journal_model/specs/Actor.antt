@@ -35,7 +35,10 @@ actor_total = on_total actor_key nat_list_cmp_total
 
 -- only equal actors tie
 pub actor_exact : IsAntisymmetric actor_cmp
-actor_exact a b tie = sym (key_actor-actor_key a) ∙ ap key_actor (slice_cmp-IsAntisymmetric nat_cmp-IsAntisymmetric (actor_key a) (actor_key b) tie) ∙ key_actor-actor_key b
+actor_exact a b tie =
+    sym (key_actor-actor_key a)
+    ∙ ap key_actor (slice_cmp-IsAntisymmetric nat_cmp-IsAntisymmetric (actor_key a) (actor_key b) tie)
+    ∙ key_actor-actor_key b
 
 abbrev pub actor_code : Coded Actor
 actor_code = code_by (List ℕ) (coded_list coded_ℕ) actor_key key_actor key_actor-actor_key

@@ -10,7 +10,8 @@ use Rattle.journal_model.specs.Machine.{Machine, is_present, verdict_of}
 
 -- the refusal that is due whatever else is the case
 abbrev pub defined_reply_of : Command → Users → Option Reply
-defined_reply_of command users = refusal_of command (record { present = is_present (user_in command) users; ready = false })
+defined_reply_of command users =
+    refusal_of command (record { present = is_present (user_in command) users; ready = false })
 
 -- for a create it is the verdict of each machine whose log makes the map
 abbrev pub DefinedReplyIsVerdict : Type 0

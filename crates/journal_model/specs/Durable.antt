@@ -1,5 +1,5 @@
 -- Durable changes stay: in every later legal journal, and from the reply on that told of them.
-use Rattle.std.specs.Prelude.{◌≡◌, ℕ, ◌≤◌, List, ◌++◌, take, Option, Some, None, Contains}
+use Rattle.std.specs.Prelude.{◌≡◌, ℕ, ◌≤◌, List, ◌++◌, take, Some, None, Contains}
 use Rattle.std.specs.FinMap as map
 use Rattle.journal_model.specs.declared.commands.Command.TheVariants.{Create}
 use Rattle.journal_model.specs.declared.commands.Reply.TheVariants.{Done}

@@ -9,5 +9,6 @@ pub mod Made
 pub mod MadeLaws
 pub mod RecordCode
 pub mod Refusals
+pub mod Sealed
 pub mod Users
 pub mod Written

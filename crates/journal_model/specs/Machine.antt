@@ -182,7 +182,8 @@ AllowsReply machine running (Some verdict) reply = reply ≡ verdict
 AllowsReply machine running None reply = MayEnd (kind_of_reply reply) (Succeeds machine running reply)
 
 -- a command may begin of an actor whose turns the machine takes and that runs none
-pub record MayBegin (before : List Entry) (machine : Machine) (number : ℕ) (actor : Actor) (command : Command) : Type 0 where
+pub record MayBegin (before : List Entry) (machine : Machine) (number : ℕ) (actor : Actor)
+    (command : Command) : Type 0 where
   pub own : actor ≡ actor_of command
   pub idle : (other : ℕ) → IfSome (map.get machine.running other) (λ running. actor_of running.command ≢ actor)
   pub fresh : ¬ (Contains (numbers_begun before) number)

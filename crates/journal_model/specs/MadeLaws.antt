@@ -8,14 +8,18 @@ use Rattle.journal_model.specs.Made.{stream_number, made, key_of, nonce_of, disc
 -- commands of one stream are one user's and have one index
 abbrev pub StreamsAreApart : Type 0
 StreamsAreApart =
-    (user other index next : ℕ) → index < 2 ^ 32 → next < 2 ^ 32 → stream_number user index ≡ stream_number other next → (user ≡ other) × (index ≡ next)
+    (user other index next : ℕ) → index < 2 ^ 32 → next < 2 ^ 32 → stream_number user index ≡ stream_number other next
+    → (user ≡ other) × (index ≡ next)
 
--- the words of a stream that are used are the two keys, the two nonces, 26 words without use, and the two discardable files
+-- the words of a stream that are used are the two keys, the two nonces, 26 words without use, and the two discardable
+-- files
 abbrev pub WordsServeOnce : Type 0
 WordsServeOnce =
     (seed : List ℕ) (user : ℕ) (birth : Birth) → made seed birth.boot user birth.index 0 8256
-    ≡ key_of seed Ce user birth ++ key_of seed De user birth ++ nonce_of seed Ce user birth ++ nonce_of seed De user birth
-    ++ made seed birth.boot user birth.index 38 26 ++ discardable_of seed Ce user birth ++ discardable_of seed De user birth
+    ≡ key_of seed Ce user birth ++ key_of seed De user birth ++ nonce_of seed Ce user birth
+    ++ nonce_of seed De user birth
+    ++ made seed birth.boot user birth.index 38 26 ++ discardable_of seed Ce user birth
+    ++ discardable_of seed De user birth
 
 -- the lengths of a key, a nonce and a discardable file, in bytes
 pub record HasLengths (seed : List ℕ) (class : Class) (user : ℕ) (birth : Birth) : Type 0 where

@@ -16,7 +16,8 @@ const KEY_GENERATION: [u8; 42] = *b"Android key wrapping key generation SHA512";
 /// What a prefix is filled up with.
 const ZEROS: [u8; 128] = [0; 128];
 
-/// SHA-512 (FIPS 180-4, section 6.4) of the prefix, filled up with zeros to 128 bytes, and the bytes. It takes no memory.
+/// SHA-512 (FIPS 180-4, section 6.4) of the prefix, filled up with zeros to 128 bytes, and the bytes. It takes no
+/// memory.
 pub fn prefixed_hash(prefix: &[u8], bytes: &[u8]) -> [u8; 64]
     requires { length prefix.now ≤ 128 }
     ensures { result ≡ prefixed_hash prefix.now bytes.now }

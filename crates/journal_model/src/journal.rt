@@ -18,7 +18,10 @@ impl Model for Journal {
 
     ghost use Rattle.std.specs.Prelude.{◌-◌, vec_len, vec_capacity};
 
-    ghost view = { λ journal. record { entries = journal.entries.items; room = vec_capacity journal.entries - vec_len journal.entries } };
+    ghost view = { λ journal. record {
+      entries = journal.entries.items;
+      room = vec_capacity journal.entries - vec_len journal.entries;
+    } };
 }
 
 impl Journal {

@@ -1,5 +1,6 @@
 ghost use Rattle.journal_model.specs.DefinedReply.{DefinedReplyIsVerdict};
 ghost use Rattle.journal_model.specs.Durable.{LawOfSurvival, LawOfCreated};
+ghost use Rattle.journal_model.specs.Sealed.{SealedKeysOpen};
 
 /// For a create, the defined reply is the verdict of each machine whose log makes the map.
 pub fn law_of_defined_reply()
@@ -14,4 +15,9 @@ pub fn law_of_survival()
 /// A create that is told that it did its work has its change among the durable ones.
 pub fn law_of_created()
     ensures { LawOfCreated }
+{}
+
+/// A sealed key has 92 bytes, and its wrapping key opens it to the key.
+pub fn law_of_sealed_keys()
+    ensures { SealedKeysOpen }
 {}

@@ -1,5 +1,6 @@
 ghost use Rattle.std.specs.Prelude.{◌≡◌, ℕ, ◌+◌, ◌*◌, ◌≤◌, length, IfOk};
-ghost use Rattle.journal_model.specs.Made.{boot_seed_of, stream_number, generator_at, stream_bytes, key_place, nonce_place, discardable_place, key_of, nonce_of, discardable_of};
+ghost use Rattle.journal_model.specs.Made.{boot_seed_of, stream_number, generator_at, stream_bytes, key_place};
+ghost use Rattle.journal_model.specs.Made.{nonce_place, discardable_place, key_of, nonce_of, discardable_of};
 ghost use Rattle.journal_model.specs.MadeLaws.{StreamsAreApart, WordsServeOnce, MadeLengths};
 
 use crate::entries::Birth;
@@ -28,8 +29,8 @@ pub fn boot_seed(seed: &[u8], boot: u64) -> [u8; 32]
 }
 
 /// The words `first_word` to `first_word + words - 1` of the stream of a user's command, four bytes a word and the low
-/// byte first. The stream is ChaCha20 under the boot's seed, with the stream number `user * 2^32 + index`, where the index
-/// is how many commands the user's actor began before this one in the boot.
+/// byte first. The stream is ChaCha20 under the boot's seed, with the stream number `user * 2^32 + index`, where the
+/// index is how many commands the user's actor began before this one in the boot.
 pub fn made_bytes(
     alloc: Global,
     boot_seed: &[u8; 32],

@@ -1,1 +1,7 @@
+pub mod Apart
+pub mod Births
+pub mod Lasting
+pub mod Opening
 pub mod Standing
+pub mod Storing
+pub mod Tested

@@ -1,1 +1,5 @@
+pub mod Opens
 pub mod Rehearsal
+pub mod Shape
+pub mod VaultLaws
+pub mod Vaults

@@ -1,3 +1,2 @@
 pub mod Layered
-pub mod Planned
 pub mod Trees

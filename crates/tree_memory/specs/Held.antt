@@ -13,10 +13,14 @@ pub record Held : Type 0 where
   pub room : ℕ
 
 abbrev pub disk_code : Coded Disk
-disk_code = code_by (Tree × List Op) (coded× tree_code (coded_list (op.the_row).coded)) (λ disk. (disk.stable, disk.pending)) (λ parts. record { stable = parts.0; pending = parts.1 }) (λ _. refl)
+disk_code =
+    code_by (Tree × List Op) (coded× tree_code (coded_list (op.the_row).coded)) (λ disk. (disk.stable, disk.pending))
+    (λ parts. record { stable = parts.0; pending = parts.1 }) (λ _. refl)
 
 abbrev pub held_code : Coded Held
-held_code = code_by (Disk × ℕ) (coded× disk_code coded_ℕ) (λ held. (held.disk, held.room)) (λ parts. record { disk = parts.0; room = parts.1 }) (λ _. refl)
+held_code =
+    code_by (Disk × ℕ) (coded× disk_code coded_ℕ) (λ held. (held.disk, held.room))
+    (λ parts. record { disk = parts.0; room = parts.1 }) (λ _. refl)
 
 -- the tree that calls see: the view, or the stable tree where there is none
 abbrev pub shown : Tree → Option Shelf → Tree

@@ -8,4 +8,6 @@ pub record Shelf : Type 0 where
   pub room : ℕ
 
 abbrev pub shelf_code : Coded Shelf
-shelf_code = code_by (Tree × ℕ) (coded× tree_code coded_ℕ) (λ shelf. (shelf.tree, shelf.room)) (λ parts. record { tree = parts.0; room = parts.1 }) (λ _. refl)
+shelf_code =
+    code_by (Tree × ℕ) (coded× tree_code coded_ℕ) (λ shelf. (shelf.tree, shelf.room))
+    (λ parts. record { tree = parts.0; room = parts.1 }) (λ _. refl)

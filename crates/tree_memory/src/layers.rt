@@ -29,7 +29,10 @@ impl Model for Layers {
 
     ghost coded = { held_code };
 
-    ghost view = { λ layers. record { disk = record { stable = layers.stable.tree; pending = layers.pending.items }; room = room_of layers.stable.room layers.view (length layers.pending.items) (vec_capacity layers.pending) } };
+    ghost view = { λ layers. record {
+      disk = record { stable = layers.stable.tree; pending = layers.pending.items };
+      room = room_of layers.stable.room layers.view (length layers.pending.items) (vec_capacity layers.pending);
+    } };
 
     ghost invariant = { λ layers. IsLayered layers.stable layers.view layers.pending.items };
 }

@@ -1,7 +1,6 @@
 //! A tree device in memory, whose stops tear writes and whose calls fail where they were told to.
 #![tactic(auto)]
 
-mod counter;
 mod folders;
 mod layers;
 mod mem_tree;

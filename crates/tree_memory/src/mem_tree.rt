@@ -1,13 +1,15 @@
-ghost use Rattle.std.specs.Prelude.{◌≡◌, ◌↔◌, [], IsTrue, IsSome, IfSome, IfOk, IsOk, IsErrOf, MatchResult, count_by, nat_lt};
+ghost use Rattle.std.specs.Prelude.{◌≡◌, ◌↔◌, [], IsTrue, IsSome, IfSome, IfOk, IsOk};
+ghost use Rattle.std.specs.Prelude.{IsErrOf, MatchResult, count_by, nat_lt};
 ghost use Rattle.std.specs.List.Sorted.{IsStrictlyIncreasing};
 ghost use Rattle.std.specs.FinMap as map;
 ghost use Rattle.tree_model.specs.Counted.{IsCounted};
 ghost use Rattle.tree_model.specs.Disk.{view, with_op};
 ghost use Rattle.tree_model.specs.Device.{IsWritten};
-ghost use Rattle.tree_memory.specs.Medium.{empty_disk, no_counts};
+ghost use Rattle.call_counter.specs.Counts.{no_counts};
+ghost use Rattle.tree_memory.specs.Medium.{empty_disk};
 
-use crate::counter::Counter;
 use crate::layers::Layers;
+use call_counter::Counter;
 use std::alloc::Global;
 use std::marker::Model;
 use tree_model::{Boot, Bytes, Cut, DevFault, Dir, FileName, NoMemory, Op, Place, TreeDisk};
@@ -54,7 +56,8 @@ impl MemTree {
 
     /// How many planned calls are still to come: those with a number above the count of calls.
     pub fn planned_left(&self) -> u64
-        ensures left { IfSome self.now.counts.plan (λ planned. result ≡ count_by (λ call. nat_lt self.now.counts.calls call) planned) }
+        ensures left { IfSome self.now.counts.plan
+            (λ planned. result ≡ count_by (λ call. nat_lt self.now.counts.calls call) planned) }
         ensures once { IfSome self.now.counts.plan IsStrictlyIncreasing }
     {
         self.counter.left()
@@ -63,7 +66,8 @@ impl MemTree {
     /// Makes the operation, which is given twice, unless the call fails. There is memory for it.
     fn make(&mut self, now: Op, later: Op) -> Result<(), DevFault>
         requires { later ≡ now }
-        ensures made { MatchResult result (λ _. self.new.disk ≡ with_op self.old.disk now) (λ _. self.new.disk ≡ self.old.disk) }
+        ensures made { MatchResult result (λ _. self.new.disk ≡ with_op self.old.disk now)
+            (λ _. self.new.disk ≡ self.old.disk) }
         ensures counted { IsCounted self.old.counts self.new.counts result }
     {
         self.layers.prepare()?;
@@ -104,7 +108,8 @@ impl TreeDisk for MemTree {
         requires { IsSome (map.get (view self.old.disk) place) }
         ensures written { IsWritten self.old.disk self.new.disk place file bytes.now result }
         ensures counted { IsCounted self.old.counts self.new.counts result }
-        ensures torn { IsErrOf result DevFault.Failed → self.new.disk ≡ with_op self.old.disk (Op.Write place file []) }
+        ensures torn { IsErrOf result DevFault.Failed
+            → self.new.disk ≡ with_op self.old.disk (Op.Write place file []) }
     {
         let now = Bytes::copy(self.alloc, bytes)?;
         let later = Bytes::copy(self.alloc, bytes)?;

@@ -9,5 +9,6 @@ returns c =
     let used = length c.args.prefix.now in
     let zeros : List ℕ = replicate (128 - used) 0 in
     let rest : take (128 - used) (drop used (replicate {A = ℕ} 128 0)) ≡ zeros =
-    ap (take (128 - used)) (drop-replicate used 128 0) ∙ take_all (128 - used) zeros (omega (arith, length-replicate {A = ℕ} (128 - used) 0)) in
+    ap (take (128 - used)) (drop-replicate used 128 0)
+    ∙ take_all (128 - used) zeros (omega (arith, length-replicate {A = ℕ} (128 - used) 0)) in
     rw rest at (c.update.ensures c.args.prefix.now c.new_with_prefix-hasher.ensures)

@@ -11,4 +11,5 @@ returns c =
     let held = c.update-2.ensures (prefix ++ seed) (c.update.ensures prefix c.after_prefix-hasher.ensures) in
     c.half.ensures
     ∙ ap half_of (c.finalize.ensures ((prefix ++ seed) ++ c.to_be_bytes-number.result) held
-    ∙ ap sha512 (append_assoc prefix seed c.to_be_bytes-number.result ∙ ap (λ number. prefix ++ (seed ++ number)) c.to_be_bytes-number.ensures))
+    ∙ ap sha512 (append_assoc prefix seed c.to_be_bytes-number.result
+    ∙ ap (λ number. prefix ++ (seed ++ number)) c.to_be_bytes-number.ensures))

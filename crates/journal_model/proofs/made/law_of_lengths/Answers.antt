@@ -1,4 +1,5 @@
-use Rattle.journal_model.specs.Made.{made, key_of, nonce_of, discardable_of, boot_seed_of, stream_number, key_place, nonce_place, discardable_place}
+use Rattle.journal_model.specs.Made.{made, key_of, nonce_of, discardable_of, boot_seed_of}
+use Rattle.journal_model.specs.Made.{stream_number, key_place, nonce_place, discardable_place}
 use Rattle.journal_model.proofs.Streams.{length-stream_bytes}
 use Rattle.journal_model.proofs.made.law_of_lengths.Goals as goal
 

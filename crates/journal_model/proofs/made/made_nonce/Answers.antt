@@ -7,4 +7,5 @@ pub returns : goal.returns
 unfolding made nonce_of
 returns c =
     c.fill.ensures 3 refl (omega (arith, c.nonce_place.ensures, nonce-within c.args.class))
-    ∙ (λ j. stream_bytes (c.boot_seed-boot_seed.ensures j) (stream_number c.args.user c.args.birth.index) (c.nonce_place.ensures j) 3)
+    ∙ (λ j. stream_bytes (c.boot_seed-boot_seed.ensures j) (stream_number c.args.user c.args.birth.index)
+    (c.nonce_place.ensures j) 3)

@@ -8,4 +8,7 @@ use Rattle.journal_model.proofs.user_map.UserRecord.new.Goals as goal
 pub returns : goal.returns
 returns c =
     let record_of : Secrets → Record = λ secrets. record { birth = c.args.birth; secrets = secrets } in
-    ap record_of (new_secrets-rows _ (◌∙◌ {A = List (Slot × List ℕ)} c.in_ok-push.ensures.items (λ i. c.new-slots.ensures.items i ++ (Current, c.empty.ensures i) ∷ [])))
+    ap record_of
+    (new_secrets-rows _
+    (◌∙◌ {A = List (Slot × List ℕ)} c.in_ok-push.ensures.items
+    (λ i. c.new-slots.ensures.items i ++ (Current, c.empty.ensures i) ∷ [])))

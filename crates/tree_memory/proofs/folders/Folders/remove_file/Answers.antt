@@ -1,15 +1,15 @@
-use Rattle.std.proofs.Common.{refl, sym, ◌∙◌, subst}
-use Rattle.std.specs.Prelude.{IsSome}
+use Rattle.std.proofs.Common.{sym}
 use Rattle.std.specs.FinMap as map
 use Rattle.tree_model.specs.Order.{place_total, place_exact}
-use Rattle.tree_model.proofs.Maps.{get-insert_same}
-use Rattle.tree_memory.proofs.Trees.{changed-there}
+use Rattle.sorted_map.proofs.Maps.{there-insert}
+use Rattle.tree_memory.proofs.Trees.{changed-back}
 use Rattle.tree_memory.proofs.folders.Folders.remove_file.Goals as goal
 
 pub put_dir-requires : goal.put_dir-requires
 put_dir-requires c =
-    subst (λ tree. IsSome (map.get tree c.args.place)) (sym c.in-Some.ensures.left) (subst IsSome (sym (get-insert_same place_total place_exact c.args.self.now.tree c.args.place map.empty)) refl)
+    there-insert place_total place_exact c.args.self.now.tree _ c.args.place map.empty c.in-Some.ensures.left
 
 pub returns-in-Some-clause-tree : goal.returns-in-Some-clause-tree
 returns-in-Some-clause-tree c =
-    c.put_dir.ensures.tree ∙ (λ i. map.insert (c.in-Some.ensures.left i) c.args.place (c.take-bytes.ensures.rest i)) ∙ changed-there c.args.self.now.tree c.args.place c.in-Some.dir (λ files. map.remove files c.args.file) (sym c.in-Some.ensures.taken)
+    changed-back c.args.self.now.tree _ _ c.args.place c.in-Some.dir _ (λ files. map.remove files c.args.file)
+    (sym c.in-Some.ensures.taken) c.in-Some.ensures.left c.take-bytes.ensures.rest c.put_dir.ensures.tree

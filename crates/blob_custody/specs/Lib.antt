@@ -1,0 +1,4 @@
+pub mod Custody
+pub mod Laws
+pub mod Operations
+pub mod Steps

@@ -1,0 +1,2 @@
+pub mod BlobNumbers
+pub mod Rows

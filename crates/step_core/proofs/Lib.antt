@@ -1,0 +1,4 @@
+pub mod Emptied
+pub mod Marks
+pub mod Named
+pub mod Tables

@@ -1,0 +1,3 @@
+mod StoredFiles
+mod Lasting
+mod ShownTurns

@@ -1,8 +1,0 @@
-use Rattle.std.proofs.Common.{subst}
-use Rattle.std.specs.Prelude.{IfSome}
-use Rattle.std.specs.List.Sorted.{IsStrictlyIncreasing}
-use Rattle.tree_memory.proofs.Planned.{planned-rise}
-use Rattle.tree_memory.proofs.counter.Counter.left.Goals as goal
-
-pub returns-clause-once : goal.returns-clause-once
-returns-clause-once c = subst (λ counts. IfSome counts.plan IsStrictlyIncreasing) c.self.view_is (planned-rise _)
