@@ -1,5 +1,6 @@
 -- A turn that begins a command keeps a Book whole.
 use Rattle.std.proofs.Common.{◌≡◌, ◌≢◌, ℕ, ◌+◌, inl, inr, cond, List, [], ◌∷◌, ◌++◌, refl, sym, ap, ◌∙◌, subst}
+use Rattle.std.proofs.lemmas.Option.{same_Some}
 use Rattle.std.specs.Prelude.{Option, Some, None, is_some, IsNone, IsSomeAnd, IfSome, Contains, slice_get, unwrap_or}
 use Rattle.std.specs.Cmp.{nat_cmp_total}
 use Rattle.std.specs.FinMap as map
@@ -9,9 +10,7 @@ use Rattle.tree_model.specs.declared.places.Place.TheVariants.{De}
 use Rattle.tree_model.specs.Disk.{view}
 use Rattle.tree_model.proofs.Maps.{decide_key, get-insert_same, get-insert_other, tied, apart}
 use Rattle.journal_model.specs.declared.commands.Actor.{Actor}
-use Rattle.journal_model.specs.declared.commands.Actor.TheVariants.{Boot, Cp, User}
-use Rattle.journal_model.specs.declared.commands.Command.{Command}
-use Rattle.journal_model.specs.declared.commands.Command.TheVariants.{Create, Recover}
+use Rattle.journal_model.specs.declared.commands.Actor.TheVariants.{Boot, User}
 use Rattle.journal_model.specs.declared.commands.Reply.{Reply}
 use Rattle.journal_model.specs.declared.commands.Reply.TheVariants.{Ready}
 use Rattle.journal_model.specs.declared.entries.Birth.{Birth}
@@ -20,11 +19,11 @@ use Rattle.journal_model.specs.declared.entries.Entry.TheVariants.{Began}
 use Rattle.journal_model.specs.declared.phase.Phase.{Phase}
 use Rattle.journal_model.specs.declared.phase.Phase.TheVariants.{Up, Down, Halted}
 use Rattle.journal_model.specs.Actor.{actor_cmp, actor_total, actor_exact}
-use Rattle.journal_model.specs.Command.{actor_of, user_in_actor, user_in}
+use Rattle.journal_model.specs.Command.{actor_of, user_in}
 use Rattle.journal_model.specs.Refusals.{refusal_of, due}
 use Rattle.journal_model.specs.Machine.{Machine, Running as BeganCommand, after_entry, begun, begun_by, numbers_begun}
 use Rattle.journal_model.specs.Machine.{is_up, is_present, facts_of, verdict_of, TakesTurn}
-use Rattle.journal_model.proofs.RefusalKinds.{refusal-kind}
+use Rattle.journal_model.proofs.ByCommand.{no-user, of-user, refusal-kind}
 use Rattle.journal_model.proofs.Steps.{machine_after-append, legal-append, begun_by-append, numbers_begun-append}
 use Rattle.journal_model.specs.Users.{fold_changes}
 use Rattle.docket.specs.Accounts.{Accounted}
@@ -40,23 +39,10 @@ use Rattle.vold_book.specs.Places.{KnowsPlaces}
 use Rattle.vold_book.specs.State.{Docket, Plain, machine_of, timeline, ground_of}
 use Rattle.vold_book.specs.Tasks.{TaskStands, RunsOn}
 use Rattle.vold_book.specs.Turns.{Begins, user_there, facts_in, AcceptedTask, FirstTask}
-use Rattle.vold_book.specs.Whole.{WasGiven, Numbers, PhaseStands, IsCharged, Whole}
-use Rattle.vold_book.proofs.Moves.{some_same, whole-of, at_actors}
+use Rattle.vold_book.specs.Whole.{WasGiven, Numbers, PhaseStands, IsCharged, AllRun, Whole}
+use Rattle.vold_book.proofs.Moves.{whole-of, at_actors}
 use Rattle.vold_book.proofs.Numbers.{all_given-append}
 use Rattle.vold_book.proofs.UserTurns.{not_boot}
-
--- only a recovery is for no user
-no-user : (command : Command) → user_in command ≡ None → command ≡ Recover
-no-user (Create user) e = cc
-no-user Recover e = refl
-
-of-user : (command : Command) (user : ℕ) → user_in command ≡ Some user → actor_of command ≡ User user
-of-user command user is = by (actor_of command) is
-  where
-    by : (actor : Actor) → user_in_actor actor ≡ Some user → actor ≡ User user
-    by Boot e = cc
-    by Cp e = cc
-    by (User other) e = ap User (some_same other user e)
 
 pub none_of : {A : Type 0} (found : Option A) → IsNone found → found ≡ None
 none_of None none = refl
@@ -67,7 +53,8 @@ ready-down Up takes none = cc
 ready-down Down takes none = refl
 ready-down Halted takes none = absurd takes
 
-module _ (book : Plain) (actor : Actor) (after : Plain) (whole : Whole book) (idle : IsNone (map.get book.docket.running actor))
+module _ (book : Plain) (actor : Actor) (after : Plain) (whole : Whole book)
+    (idle : IsNone (map.get book.docket.running actor))
     (takes : TakesTurn book.tracker.phase actor) (begins : Begins book after actor)
     (own : actor_of begins.command ≡ actor) where
   abbrev machine : Machine
@@ -107,7 +94,8 @@ module _ (book : Plain) (actor : Actor) (after : Plain) (whole : Whole book) (id
 
   -- a command that begins stands where its first task says
   first-stands : (verdict : Option Reply) → refusal_of begins.command (facts_in book begins.command) ≡ verdict
-      → FirstTask begins.command (record { boot = book.tracker.boot; index = docket_begun book.docket actor }) verdict begins.task
+      → FirstTask begins.command
+      (record { boot = book.tracker.boot; index = docket_begun book.docket actor }) verdict begins.task
       → TaskStands (ground_of book) begins.task began
   first-stands (Some reply) is first =
       subst (λ t. TaskStands (ground_of book) t began) (sym first)
@@ -130,10 +118,11 @@ module _ (book : Plain) (actor : Actor) (after : Plain) (whole : Whole book) (id
           → TaskStands (ground_of book) begins.task began
       by (Some user) of (first, is_first, shows) =
           let line = timeline book.tree.disk machine in
-          let mine : user ≡ user_of first = some_same user (user_of first) (sym of ∙ shows.owned) in
+          let mine : user ≡ user_of first = same_Some user (user_of first) (sym of ∙ shows.owned) in
           let present : (facts_in book begins.command).present ≡ is_some (own_record (own_of (user_of first) line)) =
           ap (λ f. f.present) facts-agree ∙ ap (λ o. is_present o (fold_changes machine.log)) shows.owned
-          ∙ sym (there-user book.seed line (user_of first) whole.worlds) ∙ sym (there-record book.seed line (user_of first) whole.worlds) in
+          ∙ sym (there-user book.seed line (user_of first) whole.worlds)
+          ∙ sym (there-record book.seed line (user_of first) whole.worlds) in
           subst (λ t. TaskStands (ground_of book) t began) (sym is_first)
           (subst (λ b. Rests (rest_of book.seed first) b began (own_of (user_of first) line)) (sym whole.agrees.boot)
           (subst (λ b. Rests (rest_of book.seed first) book.tracker.boot b (own_of (user_of first) line)) same_began
@@ -167,18 +156,21 @@ module _ (book : Plain) (actor : Actor) (after : Plain) (whole : Whole book) (id
   on_here = get-insert_same nat_cmp_total nat_cmp-IsAntisymmetric machine.running begins.number began
 
   on_other : (n : ℕ) → n ≢ begins.number → map.get machine'.running n ≡ map.get machine.running n
-  on_other n differ = get-insert_other nat_cmp_total nat_cmp-IsAntisymmetric machine.running begins.number began n differ
+  on_other n differ =
+      get-insert_other nat_cmp_total nat_cmp-IsAntisymmetric machine.running begins.number began n differ
 
   no_work : map.get book.docket.running actor ≡ None
   no_work = none_of (map.get book.docket.running actor) idle
 
   fresh : ¬ (Contains (numbers_begun book.ledger.entries) begins.number)
-  fresh = first-fresh actor_total actor_exact actor_of book.docket (numbers_begun book.ledger.entries) whole.numbers.accounted
-      actor begins.number begins.numbers begins.queued
+  fresh =
+      first-fresh actor_total actor_exact actor_of book.docket
+      (numbers_begun book.ledger.entries) whole.numbers.accounted actor begins.number begins.numbers begins.queued
 
   -- no command of the actor is on the machine
   nothing-on : (n : ℕ) (b : BeganCommand) → map.get machine.running n ≡ Some b → actor_of b.command ≢ actor
-  nothing-on n b at same = subst (λ found. IsSomeAnd found (λ o. o.number ≡ n)) (ap (map.get book.docket.running) same ∙ no_work)
+  nothing-on n b at same =
+      subst (λ found. IsSomeAnd found (λ o. o.number ≡ n)) (ap (map.get book.docket.running) same ∙ no_work)
       (whole.all n b at)
 
   if-nothing-on : (n : ℕ) (found : Option BeganCommand) → map.get machine.running n ≡ found
@@ -190,7 +182,8 @@ module _ (book : Plain) (actor : Actor) (after : Plain) (whole : Whole book) (id
   not-fresh : (other : Actor) (o : Running) → map.get book.docket.running other ≡ Some o → o.number ≢ begins.number
   not-fresh other o at same =
       let run = whole.run other o at in
-      fresh (subst (Contains (numbers_begun book.ledger.entries)) same (whole.numbers.given o.number run.began run.at).begun)
+      fresh (subst (Contains (numbers_begun book.ledger.entries)) same
+      (whole.numbers.given o.number run.began run.at).begun)
 
   abbrev begun_now : List ℕ
   begun_now = numbers_begun book.ledger.entries ++ begins.number ∷ []
@@ -202,10 +195,11 @@ module _ (book : Plain) (actor : Actor) (after : Plain) (whole : Whole book) (id
       → WasGiven docket' (book.ledger.entries ++ entry ∷ []) n b
   given-now n b at = elim (decide_key nat_cmp_total nat_cmp-IsAntisymmetric n begins.number) [
     | inl same ↦
-        let own : b ≡ began = some_same b began (sym at ∙ ap (map.get machine'.running) same ∙ on_here) in record {
+        let own : b ≡ began = same_Some b began (sym at ∙ ap (map.get machine'.running) same ∙ on_here) in record {
           given = ap (slice_get book.docket.commands) same ∙ begins.given ∙ ap Some (sym (ap (λ r. r.command) own));
           begun = subst (λ ns. Contains ns n) (sym numbers-are)
-              (subst (Contains begun_now) (sym same) (Contains-push (numbers_begun book.ledger.entries) begins.number));
+              (subst (Contains begun_now) (sym same)
+              (Contains-push (numbers_begun book.ledger.entries) begins.number));
         }
     | inr differ ↦
         let was = whole.numbers.given n b (sym (on_other n differ) ∙ at) in record {
@@ -232,7 +226,8 @@ module _ (book : Plain) (actor : Actor) (after : Plain) (whole : Whole book) (id
     accounted = subst (λ ns. Accounted actor_of ns docket') (sym numbers-are)
         (accounted-begun actor_total actor_exact actor_of book.docket (numbers_begun book.ledger.entries)
         whole.numbers.accounted actor begins.number begins.numbers begins.queued mine);
-    as_given = all_given-append book.docket.commands book.ledger.entries entry whole.numbers.as_given (begins.given, sym own);
+    as_given =
+        all_given-append book.docket.commands book.ledger.entries entry whole.numbers.as_given (begins.given, sym own);
     given = given-now;
     counts = counts-now;
     boots = whole.numbers.boots;
@@ -250,11 +245,10 @@ module _ (book : Plain) (actor : Actor) (after : Plain) (whole : Whole book) (id
         stands = run.stands;
       }
 
-  all-now : (n : ℕ) (b : BeganCommand) → map.get machine'.running n ≡ Some b
-      → IsSomeAnd (map.get running' (actor_of b.command)) (λ o. o.number ≡ n)
+  all-now : AllRun machine' running'
   all-now n b at = elim (decide_key nat_cmp_total nat_cmp-IsAntisymmetric n begins.number) [
     | inl same ↦
-        let is : b ≡ began = some_same b began (sym at ∙ ap (map.get machine'.running) same ∙ on_here) in
+        let is : b ≡ began = same_Some b began (sym at ∙ ap (map.get machine'.running) same ∙ on_here) in
         subst (λ a. IsSomeAnd (map.get running' a) (λ o. o.number ≡ n)) (sym (ap (λ r. actor_of r.command) is ∙ own))
         (subst (λ found. IsSomeAnd found (λ o. o.number ≡ n)) (sym here) (sym same))
     | inr differ ↦
@@ -299,7 +293,7 @@ module _ (book : Plain) (actor : Actor) (after : Plain) (whole : Whole book) (id
         worlds = whole.worlds;
         numbers = numbers-now;
         run = at_actors actor (λ a. (o : Running) → map.get running' a ≡ Some o → RunsOn (ground_of book) machine' a o)
-            (λ o at. subst (RunsOn (ground_of book) machine' actor) (some_same mine o (sym here ∙ at)) (record {
+            (λ o at. subst (RunsOn (ground_of book) machine' actor) (same_Some mine o (sym here ∙ at)) (record {
               began = began;
               at = on_here;
               own = own;

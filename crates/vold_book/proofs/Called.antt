@@ -35,17 +35,23 @@ module _ (book : Plain) (actor : Actor) (number : ℕ) (call : Call) (whole : Wh
       → Plans book actor (record { number = number; task = task }) (CallNext call change then) → Goes change then
   goes change (Using task) (Using then) plans = record {
     fits = user-fits book actor number task whole plans.runs plans.on call change then plans.shows;
-    made = λ counts disk places done. user-made book actor number task whole plans.runs plans.on counts call change then disk
+    made =
+        λ counts disk places done.
+        user-made book actor number task whole plans.runs plans.on counts call change then disk
         places plans.shows done;
-    failed = λ counts disk failed. user-failed book actor number task whole plans.runs plans.on counts call change then disk
+    failed =
+        λ counts disk failed. user-failed book actor number task whole plans.runs plans.on counts call change then disk
         plans.shows failed;
   }
   goes change (Recovers recovery) (Recovers then) plans =
       subst (λ c. Goes c (Recovers then)) (sym plans.shows.0) (record {
         fits = recovery-fits book actor number recovery whole plans.runs plans.on call then plans.shows.1;
-        made = λ counts disk places done. recovery-made book actor number recovery whole plans.runs plans.on counts call then
+        made =
+            λ counts disk places done.
+            recovery-made book actor number recovery whole plans.runs plans.on counts call then
             disk places plans.shows.1 done;
-        failed = λ counts disk failed. recovery-failed book actor number recovery whole plans.runs plans.on counts call then
+        failed =
+            λ counts disk failed. recovery-failed book actor number recovery whole plans.runs plans.on counts call then
             disk plans.shows.1 failed;
       })
   goes change (Using task) (Recovers then) plans = absurd plans.shows
@@ -75,9 +81,11 @@ module _ (book : Plain) (actor : Actor) (it : Running) (call : Call) (change : O
       ((goes book actor it.number call whole change it.task then plans).failed tree.counts tree.disk is.0)
 
   -- the Book is whole, where the charges are
-  pub whole-called : (called : Called Device) → IsMade book.tree.disk called.tree.disk book.places called.places call (Ok called.made)
+  pub whole-called : (called : Called Device)
+      → IsMade book.tree.disk called.tree.disk book.places called.places call (Ok called.made)
       → IsCharged (after_call book actor it.number call change then called)
       → Whole (after_call book actor it.number call change then called)
   whole-called called is charged =
-      whole-moved book actor it (book.ledger.callers ++ actor ∷ []) (after_of book it.number call change then called) whole plans.runs
+      whole-moved book actor it (book.ledger.callers ++ actor ∷ [])
+      (after_of book it.number call change then called) whole plans.runs
       (call-moves called.tree called.places called.made is) charged

@@ -27,7 +27,8 @@ use Rattle.vold_book.specs.Calls.{as_answer, entry_of}
 use Rattle.vold_book.specs.Parts.{with_entry}
 use Rattle.vold_book.specs.State.{Docket, Plain, Device}
 use Rattle.vold_book.specs.Stops.{after_stop, after_restart}
-use Rattle.vold_book.specs.Turns.{FirstTask, AcceptedTask, Called, task_after, made_entry, after_call, after_reply, IsNoted}
+use Rattle.vold_book.specs.Turns.{FirstTask, AcceptedTask, Called, task_after}
+use Rattle.vold_book.specs.Turns.{made_entry, after_call, after_reply, IsNoted}
 use Rattle.vold_book.specs.Whole.{charge_of, charge_in, due_in, due_of, IsCharged}
 
 charges-append : (entries : List Entry) (entry : Entry)
@@ -60,7 +61,8 @@ due-told UserExists task told = omega arith
 due-told Ready task told = omega arith
 due-told TreeFault task told = let e = ap due_in (told refl) in omega (arith, e)
 
-due-first : (command : Command) (birth : Birth) (verdict : Option Reply) (task : Task) → FirstTask command birth verdict task
+due-first : (command : Command) (birth : Birth) (verdict : Option Reply) (task : Task)
+    → FirstTask command birth verdict task
     → due_in task ≡ 0
 due-first command birth (Some reply) task first = ap due_in first
 due-first command birth None task first = by (user_in command) first
@@ -87,7 +89,8 @@ module _ (book : Plain) (charged : IsCharged book) where
         | inr full ↦ inr full
       ]
 
-  pub called-charged : (actor : Actor) (number : ℕ) (call : Call) (change : Option LocalChange) (then : Task) (called : Called Device)
+  pub called-charged : (actor : Actor) (number : ℕ) (call : Call) (change : Option LocalChange) (then : Task)
+      (called : Called Device)
       → IsCounted book.tree.counts called.tree.counts (as_answer (Ok called.made)) → due_in then ≡ 0
       → IsCharged (after_call book actor number call change then called)
   called-charged actor number call change then called counted none = by called.made refl counted
@@ -148,10 +151,3 @@ module _ (book : Plain) (charged : IsCharged book) where
         | inl less ↦ inl (omega (arith, a, less))
         | inr full ↦ inr full
       ]
-
-  -- a look at the device only adds failures
-  pub looked-charged : (tree : Device) → book.tree.counts.faults ≤ tree.counts.faults → IsCharged (record book { tree = tree })
-  looked-charged tree rises = elim charged [
-    | inl less ↦ inl (omega (arith, less, rises))
-    | inr full ↦ inr (omega (arith, full, rises))
-  ]

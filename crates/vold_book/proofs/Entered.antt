@@ -6,7 +6,8 @@ use Rattle.vold_book.specs.declared.standings.Standing.{Standing}
 use Rattle.vold_book.specs.Stands.{stands_after, stands_from, stands_in}
 
 stands_from-append : (standing : Standing) (number : ℕ) (entries : List Entry) (entry : Entry)
-    → stands_from standing number (entries ++ entry ∷ []) ≡ stands_after (stands_from standing number entries) number entry
+    → stands_from standing number (entries ++ entry ∷ [])
+    ≡ stands_after (stands_from standing number entries) number entry
 stands_from-append standing number [] entry = refl
 stands_from-append standing number (first ∷ entries) entry =
     stands_from-append (stands_after standing number first) number entries entry

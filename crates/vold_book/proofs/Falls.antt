@@ -1,11 +1,13 @@
 -- Each turn that goes leaves fewer turns.
-use Rattle.std.proofs.Common.{◌≡◌, zero, suc, ℕ, ◌+◌, ◌*◌, ◌-◌, ◌<◌, Bool, true, false, cond, List, ◌∷◌, length, refl, sym, ap, ◌∙◌, arith}
+use Rattle.std.proofs.Common.{◌≡◌, zero, suc, ℕ, ◌+◌, ◌*◌, ◌-◌, ◌<◌, Bool, true, false, cond, List, ◌∷◌, length, refl}
+use Rattle.std.proofs.Common.{sym, ap, ◌∙◌, arith}
 use Rattle.std.specs.Prelude.{Option, Some, None, IsSome, IsNone, is_some, Ok}
 use Rattle.std.specs.FinMap as map
 use Rattle.std.specs.Ordering.{eq_by_cmp}
 use Rattle.tree_model.specs.declared.places.Place.{Place}
 use Rattle.tree_model.specs.declared.sites.LocalOp.{LocalOp}
-use Rattle.tree_model.specs.declared.sites.LocalOp.TheVariants.{MakeDir, Write, RenameFile, RenameDir, RemoveFile, RemoveDir}
+use Rattle.tree_model.specs.declared.sites.LocalOp.TheVariants.{MakeDir, Write, RenameFile}
+use Rattle.tree_model.specs.declared.sites.LocalOp.TheVariants.{RenameDir, RemoveFile, RemoveDir}
 use Rattle.tree_model.specs.Dir.{Files}
 use Rattle.tree_model.specs.Order.{place_cmp, place_total}
 use Rattle.tree_model.specs.Tree.{Tree, if_there, after_op}
@@ -37,10 +39,12 @@ use Rattle.vold_book.proofs.Shown.{CallFalls}
 
 module _ (tree : Tree) (place : Place) where
   len-new : (files : Files) → IsNone (map.get tree place) → map.len (map.insert tree place files) ≡ map.len tree + 1
-  len-new files none = map.len-insert place_total tree place files ∙ ap (λ t. cond t (map.len tree) (map.len tree + 1)) none
+  len-new files none =
+      map.len-insert place_total tree place files ∙ ap (λ t. cond t (map.len tree) (map.len tree + 1)) none
 
   len-there : (files : Files) → IsSome (map.get tree place) → map.len (map.insert tree place files) ≡ map.len tree
-  len-there files there = map.len-insert place_total tree place files ∙ ap (λ t. cond t (map.len tree) (map.len tree + 1)) there
+  len-there files there =
+      map.len-insert place_total tree place files ∙ ap (λ t. cond t (map.len tree) (map.len tree + 1)) there
 
   some_len : IsSome (map.get tree place) → 0 < map.len tree
   some_len there = above (map.len tree) refl
@@ -72,7 +76,8 @@ len-op tree user (Write site file bytes) fits = written (map.get tree place) ref
     place = place_of user site
 
     written : (found : Option Files) → map.get tree place ≡ found
-        → map.len (if_there found tree (λ files. map.insert tree place (map.insert files file bytes))) + 0 ≡ map.len tree + 0
+        → map.len (if_there found tree (λ files. map.insert tree place (map.insert files file bytes))) + 0
+        ≡ map.len tree + 0
     written None e = refl
     written (Some files) e = let l = len-there tree place (map.insert files file bytes) fits in omega (arith, l)
 len-op tree user (RenameFile site from to) fits = absurd fits
@@ -85,7 +90,9 @@ len-op tree user (RenameDir from to) fits = renamed (map.get tree here) refl
     there = place_of user to
 
     free : IsNone (map.get (map.remove tree here) there)
-    free = ap is_some (map.get-remove place_total tree here there) ∙ either (eq_by_cmp place_cmp there here) (map.get tree there) fits.1
+    free =
+        ap is_some (map.get-remove place_total tree here there)
+        ∙ either (eq_by_cmp place_cmp there here) (map.get tree there) fits.1
       where
         either : (t : Bool) (found : Option Files) → IsNone found → is_some (cond t None found) ≡ false
         either true found none = refl
@@ -104,7 +111,8 @@ len-op tree user (RemoveDir site) fits = let r = len-gone tree (place_of user si
 len-with_op : (disk : Disk) (user : ℕ) (op : LocalOp) → LocalFits (part_of (view disk) user) op
     → map.len (view (with_op disk (op_of user op))) + takes_local op ≡ map.len (view disk) + adds_local op
 len-with_op disk user op fits =
-    ap (λ t. map.len t + takes_local op) (applied-append disk.stable disk.pending (op_of user op)) ∙ len-op (view disk) user op fits
+    ap (λ t. map.len t + takes_local op) (applied-append disk.stable disk.pending (op_of user op))
+    ∙ len-op (view disk) user op fits
 
 failed-op-len : (user : ℕ) (op : LocalOp) (disk disk' : Disk) → LocalFits (part_of (view disk) user) op
     → IsFailedOp disk disk' user op → map.len (view disk') ≡ map.len (view disk)
@@ -140,7 +148,8 @@ call-len ListCall task then true disk disk' places places' shows fits made =
 call-len call task then false disk disk' places places' shows fits made =
     let same = failed-len call disk disk' fits made.0 in let lasts = shows.lasts in omega (arith, same, lasts)
 
-first-turns : (command : Command) (birth : Birth) (verdict : Option Reply) (task : Task) → FirstTask command birth verdict task
+first-turns : (command : Command) (birth : Birth) (verdict : Option Reply) (task : Task)
+    → FirstTask command birth verdict task
     → turns_of_task task < 15
 first-turns command birth (Some reply) task first = let e = ap turns_of_task first in omega (arith, e)
 first-turns command birth None task first = by (user_in command) first
@@ -156,10 +165,12 @@ no_worth (Some r) e = cc
 
 module _ (book : Plain) (actor : Actor) where
   -- the turns that are left once a command began
-  pub begun-falls : (number : ℕ) (numbers : List ℕ) (command : Command) (birth : Birth) (verdict : Option Reply) (task : Task)
+  pub begun-falls : (number : ℕ) (numbers : List ℕ) (command : Command) (birth : Birth)
+      (verdict : Option Reply) (task : Task)
       → IsNone (map.get book.docket.running actor) → map.get book.docket.waiting actor ≡ Some (number ∷ numbers)
       → FirstTask command birth verdict task
-      → map.len (view book.tree.disk) + 15 * total_by length (map.values (with_queue book.docket.waiting actor numbers))
+      → map.len (view book.tree.disk) + 15 * total_by length
+      (map.values (with_queue book.docket.waiting actor numbers))
       + total_by turns_of (map.values (map.insert book.docket.running actor (record { number = number; task = task })))
       < map.len (view book.tree.disk) + 15 * total_by length (map.values book.docket.waiting)
       + total_by turns_of (map.values book.docket.running)
@@ -178,14 +189,16 @@ module _ (book : Plain) (actor : Actor) where
         (map.insert book.docket.running actor (record { number = it.number; task = task_after called.made then })))
         < map.len (view book.tree.disk) + total_by turns_of (map.values book.docket.running)
     called-falls call then called shows fits made =
-        let l = call-len call it.task then called.made book.tree.disk called.tree.disk book.places called.places shows fits made in
+        let l = call-len call it.task then called.made book.tree.disk called.tree.disk book.places called.places
+        shows fits made in
         let s = sum-insert actor_total turns_of book.docket.running actor
         (record { number = it.number; task = task_after called.made then }) in
         let w = ap (worth turns_of) runs in
         omega (arith, l, s, w)
 
     pub replied-falls : 0 < turns_of_task it.task
-        → total_by turns_of (map.values (map.remove book.docket.running actor)) < total_by turns_of (map.values book.docket.running)
+        → total_by turns_of (map.values (map.remove book.docket.running actor)) < total_by turns_of
+        (map.values book.docket.running)
     replied-falls lasts =
         let s = sum-remove actor_total turns_of actor_exact book.docket.running actor in
         let w = ap (worth turns_of) runs in

@@ -2,7 +2,8 @@
 use Rattle.std.proofs.Common.{◌≡◌, ◌≢◌, ℕ, Bool, true, false, List, refl, sym, ap, ◌∙◌, subst}
 use Rattle.std.specs.Prelude.{Option, Ok}
 use Rattle.tree_model.specs.declared.sites.LocalOp.{LocalOp}
-use Rattle.tree_model.specs.declared.sites.LocalOp.TheVariants.{MakeDir, Write, RenameFile, RenameDir, RemoveFile, RemoveDir}
+use Rattle.tree_model.specs.declared.sites.LocalOp.TheVariants.{MakeDir, Write, RenameFile}
+use Rattle.tree_model.specs.declared.sites.LocalOp.TheVariants.{RenameDir, RemoveFile, RemoveDir}
 use Rattle.tree_model.specs.Tree.{Tree}
 use Rattle.tree_model.specs.Disk.{Disk, view, with_op}
 use Rattle.tree_model.specs.Sites.{op_of}
@@ -47,7 +48,8 @@ module _ (disk disk' : Disk) (user other : ℕ) (differ : other ≢ user) where
   isolated-failed (RemoveFile site file) failed = same-tree other _ _ (ap view failed)
   isolated-failed (RemoveDir site) failed = same-tree other _ _ (ap view failed)
 
-  isolated-call : (op : LocalOp) (made : Bool) (places places' : PlaceMap) → IsMade disk disk' places places' (OpCall user op) (Ok made)
+  isolated-call : (op : LocalOp) (made : Bool) (places places' : PlaceMap)
+      → IsMade disk disk' places places' (OpCall user op) (Ok made)
       → SameFor other (view disk) (view disk')
   isolated-call op true places places' is = isolated-op op is.0
   isolated-call op false places places' is = isolated-failed op is.0
@@ -72,8 +74,8 @@ owned meaning user own change next Sync stands at op e = cc
 owned meaning user own change next ListCall stands at op e = cc
 
 module _ (book : Plain) (actor : Actor) (owner other : ℕ) (own : actor ≡ User owner) (differ : other ≢ owner) where
-  pub call-isolates : (it : Running) (call : Call) (change : Option LocalChange) (then : Task) (tree : Device) (places : PlaceMap)
-      (made : Bool) → Plans book actor it (CallNext call change then)
+  pub call-isolates : (it : Running) (call : Call) (change : Option LocalChange) (then : Task)
+      (tree : Device) (places : PlaceMap) (made : Bool) → Plans book actor it (CallNext call change then)
       → IsMade book.tree.disk tree.disk book.places places call (Ok made)
       → SameFor other (view book.tree.disk) (view tree.disk)
   call-isolates it call change then tree places made plans is =
@@ -82,11 +84,15 @@ module _ (book : Plain) (actor : Actor) (owner other : ℕ) (own : actor ≡ Use
       mine : (user : ℕ) → actor_of plans.on.began.command ≡ User user → user ≡ owner
       mine user of = same_user user owner (sym of ∙ plans.on.own ∙ own)
 
-      using : (user : ℕ) → user ≡ owner → (call : Call) → IsMade book.tree.disk tree.disk book.places places call (Ok made)
-          → ((at : ℕ) (op : LocalOp) → call ≡ OpCall at op → at ≡ user) → SameFor other (view book.tree.disk) (view tree.disk)
+      using : (user : ℕ) → user ≡ owner → (call : Call)
+          → IsMade book.tree.disk tree.disk book.places places call (Ok made)
+          → ((at : ℕ) (op : LocalOp) → call ≡ OpCall at op → at ≡ user)
+          → SameFor other (view book.tree.disk) (view tree.disk)
       using user same (OpCall at op) is of =
-          isolated-call book.tree.disk tree.disk at other (λ e. differ (e ∙ of at op refl ∙ same)) op made book.places places is
-      using user same Sync is of = still-call book.tree.disk tree.disk other Sync made book.places places is (λ o p e. cc)
+          isolated-call book.tree.disk tree.disk at other
+          (λ e. differ (e ∙ of at op refl ∙ same)) op made book.places places is
+      using user same Sync is of =
+          still-call book.tree.disk tree.disk other Sync made book.places places is (λ o p e. cc)
       using user same ListCall is of =
           still-call book.tree.disk tree.disk other ListCall made book.places places is (λ o p e. cc)
 

@@ -5,7 +5,8 @@ use Rattle.std.specs.Ordering.{eq_by_cmp}
 use Rattle.std.specs.FinMap as map
 use Rattle.tree_model.specs.declared.places.Place.{Place}
 use Rattle.tree_model.specs.declared.sites.LocalOp.{LocalOp}
-use Rattle.tree_model.specs.declared.sites.LocalOp.TheVariants.{MakeDir, Write, RenameFile, RenameDir, RemoveFile, RemoveDir}
+use Rattle.tree_model.specs.declared.sites.LocalOp.TheVariants.{MakeDir, Write, RenameFile}
+use Rattle.tree_model.specs.declared.sites.LocalOp.TheVariants.{RenameDir, RemoveFile, RemoveDir}
 use Rattle.tree_model.specs.Dir.{Files}
 use Rattle.tree_model.specs.Order.{place_cmp, place_total, place_exact}
 use Rattle.tree_model.specs.Tree.{Tree, if_there, after_op}
@@ -35,7 +36,8 @@ module _ (places : PlaceMap) (tree : Tree) where
       ∙ alike_some (eq_by_cmp place_cmp q place) tt files (map.get places q) (map.get tree q) (knows q)
       ∙ sym (ap is_some (map.get-insert place_total tree place files q))
 
-  known-remove : (place : Place) → KnowsPlaces places tree → KnowsPlaces (map.remove places place) (map.remove tree place)
+  known-remove : (place : Place) → KnowsPlaces places tree
+      → KnowsPlaces (map.remove places place) (map.remove tree place)
   known-remove place knows q =
       ap is_some (map.get-remove place_total places place q)
       ∙ alike_none (eq_by_cmp place_cmp q place) (map.get places q) (map.get tree q) (knows q)
@@ -69,7 +71,8 @@ known-op places tree user (RenameDir from to) fits knows =
     (if_there found tree (λ files. map.insert (map.remove tree here) there files))) [
       | None ↦ λ none. absurd (never none)
       | Some files ↦ λ some.
-          known-insert (map.remove places here) (map.remove tree here) there files (known-remove places tree here knows)
+          known-insert (map.remove places here) (map.remove tree here) there files
+          (known-remove places tree here knows)
     ] fits.0
   where
     never : IsSome {T = Files} None → ⊥
@@ -87,9 +90,11 @@ known-view places disk user op fits knows =
 pub known-failed : (places : PlaceMap) (disk disk' : Disk) (user : ℕ) (op : LocalOp)
     → LocalFits (part_of (view disk) user) op → IsFailedOp disk disk' user op → KnowsPlaces places (view disk)
     → KnowsPlaces places (view disk')
-known-failed places disk disk' user (MakeDir site) fits failed knows = subst (λ d. KnowsPlaces places (view d)) (sym failed) knows
+known-failed places disk disk' user (MakeDir site) fits failed knows =
+    subst (λ d. KnowsPlaces places (view d)) (sym failed) knows
 known-failed places disk disk' user (Write site file bytes) fits failed knows =
-    subst (λ d. KnowsPlaces places (view d)) (sym failed.1) (known-view places disk user (Write site file failed.0) fits knows)
+    subst (λ d. KnowsPlaces places (view d)) (sym failed.1)
+    (known-view places disk user (Write site file failed.0) fits knows)
 known-failed places disk disk' user (RenameFile site from to) fits failed knows = absurd fits
 known-failed places disk disk' user (RenameDir from to) fits failed knows =
     subst (λ d. KnowsPlaces places (view d)) (sym failed) knows

@@ -1,16 +1,19 @@
 -- A search through the places in order, and the places that the device lists.
-use Rattle.std.proofs.Common.{◌≡◌, ◌<◌, ◌≤◌, zero, suc, ℕ, ◌+◌, Bool, true, false, cond, T, List, [], ◌∷◌, ◌++◌, length, get_or, take, refl, sym, ap, ◌∙◌, subst, arith}
-use Rattle.std.specs.Prelude.{Some, IsSome, IsTrue, ◌↔◌, ◌&&◌}
+use Rattle.std.proofs.Common.{◌≡◌, ◌<◌, ◌≤◌, zero, suc, ℕ, ◌+◌, Bool, true, false, cond, List, [], ◌∷◌, ◌++◌}
+use Rattle.std.proofs.Common.{length, get_or, take, refl, sym, ap, ◌∙◌, subst, arith}
+use Rattle.std.specs.Prelude.{Some, IsSome, IsTrue, ◌↔◌}
 use Rattle.std.specs.List.{zip, list_any}
-use Rattle.std.specs.declared.cmp.Ordering.{Ordering}
 use Rattle.std.specs.declared.cmp.Ordering.TheVariants.{Less, Equal, Greater}
-use Rattle.std.specs.Ordering.{is_lt, is_eq, eq_by_cmp, ordering_reverse}
+use Rattle.std.specs.Ordering.{eq_by_cmp, ordering_reverse}
 use Rattle.std.specs.Cmp.{alike_right}
 use Rattle.std.specs.FinMap as map
 use Rattle.std.specs.FinMap.{contains_key-keys, entries_sorted}
 use Rattle.std.specs.FinMap.Entries.{find, is_sorted, below_all}
+use Rattle.std.proofs.lemmas.Bool.{and_parts, and_from}
+use Rattle.std.proofs.lemmas.Float.{T_from_true}
 use Rattle.std.proofs.lemmas.List.{take_more, take_all, length-map}
 use Rattle.sorted_map.specs.Rows.{IsSorted, IsAligned, keys}
+use Rattle.tree_model.proofs.Logic.{true_from_T, is_less, is_equal}
 use Rattle.tree_model.proofs.Maps.{tied}
 use Rattle.tree_model.specs.declared.places.Place.{Place}
 use Rattle.tree_model.specs.Order.{place_cmp, place_total, place_exact}
@@ -22,24 +25,6 @@ denied b P iff off p = let on : b ≡ true = iff.1 p in differ (sym on ∙ off)
   where
     differ : true ≡ false → ⊥
     differ e = cc
-
-eq_equal : (r : Ordering) → is_eq r ≡ true → r ≡ Equal
-eq_equal Less e = cc
-eq_equal Equal e = refl
-eq_equal Greater e = cc
-
-lt_less : (r : Ordering) → is_lt r ≡ true → r ≡ Less
-lt_less Less e = refl
-lt_less Equal e = cc
-lt_less Greater e = cc
-
-first : (a b : Bool) → (a && b) ≡ true → a ≡ true
-first true b e = refl
-first false b e = e
-
-second : (a b : Bool) → (a && b) ≡ true → b ≡ true
-second true b e = e
-second false b e = cc
 
 -- of two places each can't be the lower
 not_both : (a b : Place) → place_cmp a b ≡ Less → place_cmp b a ≡ Less → ⊥
@@ -71,7 +56,7 @@ module _ {V : Type 0} where
   contained Left place (row ∷ rows) none there left =
       elim (eq_by_cmp place_cmp place row.0) as (λ t. eq_by_cmp place_cmp place row.0 ≡ t
       → IsSome (cond t (Some row.1) (find place_cmp place rows)) → ⊥) [
-        | true ↦ λ e h. none.0 (subst Left (place_exact place row.0 (eq_equal (place_cmp place row.0) e)) left)
+        | true ↦ λ e h. none.0 (subst Left (place_exact place row.0 (is_equal (place_cmp place row.0) e)) left)
         | false ↦ λ e h. contained Left place rows none.1 h left
       ] refl there
 
@@ -80,11 +65,13 @@ module _ {V : Type 0} where
       → place ≡ get_or (keys rows) i default → IsSome (find place_cmp place rows)
   key-found [] i default place within at = absurd (omega (arith, within))
   key-found (row ∷ rows) zero default place within at =
-      subst (λ t. IsSome (cond t (Some row.1) (find place_cmp place rows))) (sym (tied place_total place_exact place row.0 at)) refl
+      subst (λ t. IsSome (cond t (Some row.1) (find place_cmp place rows)))
+      (sym (tied place_total place_exact place row.0 at)) refl
   key-found (row ∷ rows) (suc i) default place within at =
       either (eq_by_cmp place_cmp place row.0) (key-found rows i default place (omega (arith, within)) at)
     where
-      either : (t : Bool) → IsSome (find place_cmp place rows) → IsSome (cond t (Some row.1) (find place_cmp place rows))
+      either : (t : Bool) → IsSome (find place_cmp place rows)
+          → IsSome (cond t (Some row.1) (find place_cmp place rows))
       either true there = refl
       either false there = there
 
@@ -94,21 +81,23 @@ module _ {V : Type 0} where
   below-find low q (row ∷ rows) below there =
       elim (eq_by_cmp place_cmp q row.0) as (λ t. eq_by_cmp place_cmp q row.0 ≡ t
       → IsSome (cond t (Some row.1) (find place_cmp q rows)) → place_cmp low q ≡ Less) [
-        | true ↦ λ e h. alike_right place_total q row.0 low (eq_equal (place_cmp q row.0) e)
-            ∙ lt_less (place_cmp low row.0) (first _ _ below)
-        | false ↦ λ e h. below-find low q rows (second _ _ below) h
+        | true ↦ λ e h. alike_right place_total q row.0 low (is_equal (place_cmp q row.0) e)
+            ∙ is_less (place_cmp low row.0) (and_parts _ _ below).0
+        | false ↦ λ e h. below-find low q rows (and_parts _ _ below).1 h
       ] refl there
 
   -- a found key that is lower than one of the keys stands before it
-  none-below : (Kind : Place → Type 0) (rows : List (Place × V)) (i : ℕ) (default : Place) → is_sorted place_cmp rows ≡ true
-      → i < length (keys rows) → NoneIn Kind (take i (keys rows)) → (other : Place) → IsSome (find place_cmp other rows)
+  none-below : (Kind : Place → Type 0) (rows : List (Place × V)) (i : ℕ) (default : Place)
+      → is_sorted place_cmp rows ≡ true
+      → i < length (keys rows) → NoneIn Kind (take i (keys rows)) → (other : Place)
+      → IsSome (find place_cmp other rows)
       → place_cmp other (get_or (keys rows) i default) ≡ Less → ¬ (Kind other)
   none-below Kind [] i default sorted within none other there less kind = absurd (omega (arith, within))
   none-below Kind (row ∷ rows) zero default sorted within none other there less kind =
       elim (eq_by_cmp place_cmp other row.0) as (λ t. eq_by_cmp place_cmp other row.0 ≡ t
       → IsSome (cond t (Some row.1) (find place_cmp other rows)) → ⊥) [
-        | true ↦ λ e h. less_equal (sym less ∙ eq_equal (place_cmp other row.0) e)
-        | false ↦ λ e h. not_both other row.0 less (below-find row.0 other rows (first _ _ sorted) h)
+        | true ↦ λ e h. less_equal (sym less ∙ is_equal (place_cmp other row.0) e)
+        | false ↦ λ e h. not_both other row.0 less (below-find row.0 other rows (and_parts _ _ sorted).0 h)
       ] refl there
     where
       less_equal : Less ≡ Equal → ⊥
@@ -116,13 +105,10 @@ module _ {V : Type 0} where
   none-below Kind (row ∷ rows) (suc i) default sorted within none other there less kind =
       elim (eq_by_cmp place_cmp other row.0) as (λ t. eq_by_cmp place_cmp other row.0 ≡ t
       → IsSome (cond t (Some row.1) (find place_cmp other rows)) → ⊥) [
-        | true ↦ λ e h. none.0 (subst Kind (place_exact other row.0 (eq_equal (place_cmp other row.0) e)) kind)
-        | false ↦ λ e h. none-below Kind rows i default (second _ _ sorted) (omega (arith, within)) none.1 other h less kind
+        | true ↦ λ e h. none.0 (subst Kind (place_exact other row.0 (is_equal (place_cmp other row.0) e)) kind)
+        | false ↦ λ e h. none-below Kind rows i default (and_parts _ _ sorted).1
+            (omega (arith, within)) none.1 other h less kind
       ] refl there
-
-true_of : (b : Bool) → T b → b ≡ true
-true_of true p = refl
-true_of false p = absurd p
 
 module _ (places : PlaceMap) (items : List Place) (is : items ≡ map.keys places) (i : ℕ) where
   abbrev entries : List (Place × Unit {0})
@@ -131,39 +117,40 @@ module _ (places : PlaceMap) (items : List Place) (is : items ≡ map.keys place
   -- the search ended: none of the known places is such a one
   pub none-left : (Left : Place → Type 0) → length items ≤ i → NoneIn Left (take i items) → NoneLeft places Left
   none-left Left all none place there =
-      contained Left place entries (subst (NoneIn Left) (take_all i items all ∙ is) none) (subst IsSome (map.get-entries places place) there)
+      contained Left place entries (subst (NoneIn Left) (take_all i items all ∙ is) none)
+      (subst IsSome (map.get-entries places place) there)
 
   module _ (default : Place) (within : i < length items) where
     -- it found one
     pub found-left : IsSome (map.get places (get_or items i default))
     found-left = subst IsSome (sym (map.get-entries places (get_or items i default)))
-        (key-found entries i default (get_or items i default) (subst (λ ks. i < length ks) is within) (ap (λ ks. get_or ks i default) is))
+        (key-found entries i default (get_or items i default) (subst (λ ks. i < length ks) is within)
+        (ap (λ ks. get_or ks i default) is))
 
     -- and none lower is such a one
-    pub found-below : (Kind : Place → Type 0) → NoneIn Kind (take i items) → NoneBelow places Kind (get_or items i default)
+    pub found-below : (Kind : Place → Type 0) → NoneIn Kind (take i items)
+        → NoneBelow places Kind (get_or items i default)
     found-below Kind none other there less =
-        none-below Kind entries i default (true_of _ (entries_sorted places)) (subst (λ ks. i < length ks) is within)
+        none-below Kind entries i default (true_from_T _ (entries_sorted places))
+        (subst (λ ks. i < length ks) is within)
         (subst (λ ks. NoneIn Kind (take i ks)) is none) other (subst IsSome (map.get-entries places other) there)
         (subst (λ ks. place_cmp other (get_or ks i default) ≡ Less) is less)
 
-both : (a b : Bool) → a ≡ true → b ≡ true → (a && b) ≡ true
-both true true p q = refl
-both true false p q = q
-both false b p q = p
-
 -- the order of rows is that of their keys
-below-zip : {V : Type 0} (key : Place) (rows : List (Place × V)) (units : List (Unit {0})) → below_all place_cmp key rows ≡ true
+below-zip : {V : Type 0} (key : Place) (rows : List (Place × V)) (units : List (Unit {0}))
+    → below_all place_cmp key rows ≡ true
     → below_all place_cmp key (zip (keys rows) units) ≡ true
 below-zip key [] units below = refl
 below-zip key (row ∷ rows) [] below = refl
-below-zip key (row ∷ rows) (u ∷ units) below = both _ _ (first _ _ below) (below-zip key rows units (second _ _ below))
+below-zip key (row ∷ rows) (u ∷ units) below =
+    and_from _ _ (and_parts _ _ below).0 (below-zip key rows units (and_parts _ _ below).1)
 
 sorted-zip : {V : Type 0} (rows : List (Place × V)) (units : List (Unit {0})) → is_sorted place_cmp rows ≡ true
     → is_sorted place_cmp (zip (keys rows) units) ≡ true
 sorted-zip [] units sorted = refl
 sorted-zip (row ∷ rows) [] sorted = refl
 sorted-zip (row ∷ rows) (u ∷ units) sorted =
-    both _ _ (below-zip row.0 rows units (first _ _ sorted)) (sorted-zip rows units (second _ _ sorted))
+    and_from _ _ (below-zip row.0 rows units (and_parts _ _ sorted).0) (sorted-zip rows units (and_parts _ _ sorted).1)
 
 keys-zip : {V : Type 0} (ks : List Place) (units : List V) → length units ≡ length ks → keys (zip ks units) ≡ ks
 keys-zip [] units same = refl
@@ -171,11 +158,14 @@ keys-zip (k ∷ ks) [] same = absurd (omega (arith, same))
 keys-zip (k ∷ ks) (u ∷ units) same = ap (λ rest. k ∷ rest) (keys-zip ks units (omega (arith, same)))
 
 -- the places that the device lists, as the keys of a map of units
-module _ (tree : Tree) (ks : List Place) (units : List (Unit {0})) (is : ks ≡ map.keys tree) (count : length units ≡ map.len tree) where
+module _ (tree : Tree) (ks : List Place) (units : List (Unit {0})) (is : ks ≡ map.keys tree)
+    (count : length units ≡ map.len tree) where
   pub listed-aligned : IsAligned place_cmp ks units
   listed-aligned = record {
     lengths = count ∙ map.len-entries tree ∙ sym (length-map (map.entries tree) _) ∙ sym (ap length is);
-    sorted = subst (λ k. IsSorted place_cmp (zip k units)) (sym is) (sorted-zip (map.entries tree) units (true_of _ (entries_sorted tree)));
+    sorted =
+        subst (λ k. IsSorted place_cmp (zip k units)) (sym is)
+        (sorted-zip (map.entries tree) units (true_from_T _ (entries_sorted tree)));
   }
 
   abbrev listed : PlaceMap
@@ -185,9 +175,6 @@ module _ (tree : Tree) (ks : List Place) (units : List (Unit {0})) (is : ks ≡ 
   listed-known place =
       contains_key-keys listed place
       ∙ ap (λ es. list_any (eq_by_cmp place_cmp place) (keys es))
-      (map.entries-from_sorted place_cmp (zip ks units) (of_true _ listed-aligned.sorted))
-      ∙ ap (list_any (eq_by_cmp place_cmp place)) (keys-zip ks units listed-aligned.lengths ∙ is) ∙ sym (contains_key-keys tree place)
-    where
-      of_true : (b : Bool) → b ≡ true → T b
-      of_true true e = tt
-      of_true false e = cc
+      (map.entries-from_sorted place_cmp (zip ks units) (T_from_true _ listed-aligned.sorted))
+      ∙ ap (list_any (eq_by_cmp place_cmp place)) (keys-zip ks units listed-aligned.lengths ∙ is)
+      ∙ sym (contains_key-keys tree place)

@@ -1,5 +1,6 @@
 -- The one theorem of turns: a call, made or failed, that leaves what it has to keeps a Book whole, for any task.
 use Rattle.std.proofs.Common.{◌≡◌, ◌≢◌, ℕ, inl, inr, List, length, refl, sym, ap, ◌∙◌, subst, arith}
+use Rattle.std.proofs.lemmas.Option.{none-some, same_Some}
 use Rattle.std.specs.Prelude.{◌≤◌, Option, Some, None, is_some, IsSomeAnd, IfSome, Contains, slice_get}
 use Rattle.std.specs.Cmp.{nat_cmp_total}
 use Rattle.std.specs.FinMap as map
@@ -13,7 +14,8 @@ use Rattle.journal_model.specs.declared.phase.Phase.{Phase}
 use Rattle.journal_model.specs.declared.phase.Phase.TheVariants.{Up, Down, Halted}
 use Rattle.journal_model.specs.Actor.{actor_cmp, actor_total, actor_exact}
 use Rattle.journal_model.specs.Command.{actor_of}
-use Rattle.journal_model.specs.Machine.{Machine, Running as BeganCommand, IsLegal, IsDurable, machine_after, numbers_begun}
+use Rattle.journal_model.specs.Machine.{Machine, Running as BeganCommand, IsLegal}
+use Rattle.journal_model.specs.Machine.{IsDurable, machine_after, numbers_begun}
 use Rattle.journal_model.proofs.Steps.{machine_after-append, legal-append}
 use Rattle.user_world.specs.declared.changes.LocalChange.{LocalChange}
 use Rattle.user_world.specs.declared.turns.Call.{Call}
@@ -29,14 +31,8 @@ use Rattle.vold_book.specs.Recovery.{Ground}
 use Rattle.vold_book.specs.State.{Plain, Device, machine_of, timeline, ground_at, ground_of}
 use Rattle.vold_book.specs.Tasks.{TaskStands, RunsOn}
 use Rattle.vold_book.specs.Turns.{Called, task_after, made_entry}
-use Rattle.vold_book.specs.Whole.{WasGiven, Numbers, PhaseStands, IsCharged, Whole}
+use Rattle.vold_book.specs.Whole.{WasGiven, Numbers, PhaseStands, IsCharged, AllRun, Whole}
 use Rattle.vold_book.proofs.Numbers.{IsQuiet, numbers-quiet, numbers-running}
-
-pub some_same : {A : Type 0} (a b : A) → Some a ≡ Some b → a ≡ b
-some_same a b e = cc
-
-pub no_some : {A : Type 0} (a : A) → None ≡ Some a → ⊥
-no_some a e = cc
 
 -- what stands of a Book on a machine
 pub record Core (book : Plain) (machine : Machine) : Type 0 where
@@ -45,19 +41,8 @@ pub record Core (book : Plain) (machine : Machine) : Type 0 where
   pub numbers : Numbers book.docket book.ledger.entries machine
   pub run : (actor : Actor) (it : Running) → map.get book.docket.running actor ≡ Some it
       → RunsOn (ground_at book.seed book.tree.disk machine book.places) machine actor it
-  pub all : (number : ℕ) (began : BeganCommand) → map.get machine.running number ≡ Some began
-      → IsSomeAnd (map.get book.docket.running (actor_of began.command)) (λ it. it.number ≡ number)
+  pub all : AllRun machine book.docket.running
   pub phase : PhaseStands book.tracker.phase book machine
-
-pub core-of : (book : Plain) → Whole book → Core book (machine_of book)
-core-of book whole = record {
-  agrees = whole.agrees;
-  worlds = whole.worlds;
-  numbers = whole.numbers;
-  run = whole.run;
-  all = whole.all;
-  phase = whole.phase;
-}
 
 pub whole-of : (book : Plain) (machine : Machine) → machine_of book ≡ machine → IsLegal book.ledger.entries
     → length book.seed ≤ 64 → IsCharged book → Core book machine → Whole book
@@ -99,7 +84,7 @@ pub runs_apart : (machine : Machine) (actor other : Actor) (it o : Running) (g h
     → RunsOn g machine actor it → RunsOn h machine other o → other ≢ actor → o.number ≢ it.number
 runs_apart machine actor other it o g h mine theirs differ same =
     let one : theirs.began ≡ mine.began =
-    some_same theirs.began mine.began (sym theirs.at ∙ ap (map.get machine.running) same ∙ mine.at) in
+    same_Some theirs.began mine.began (sym theirs.at ∙ ap (map.get machine.running) same ∙ mine.at) in
     differ (sym theirs.own ∙ ap (λ b. actor_of b.command) one ∙ mine.own)
 
 -- what a call leaves: the device, the tracker, the known places, and what the actor runs, with the call's entry
@@ -125,7 +110,8 @@ pub record Moves (book : Plain) (actor : Actor) (number : ℕ) (after : After) :
   pub worlds : OwnWorldsStand (rehearsal book.seed) (timeline after.tree.disk (machine_then book after))
   pub boot : (machine_then book after).boot ≡ (machine_of book).boot
   -- the actor's own command, and the others
-  pub mine : RunsOn (ground_then book after) (machine_then book after) actor (record { number = number; task = after.task })
+  pub mine : RunsOn (ground_then book after) (machine_then book after) actor
+      (record { number = number; task = after.task })
   pub on_machine : (n : ℕ) → n ≢ number
       → map.get (machine_then book after).running n ≡ map.get (machine_of book).running n
   pub same_command : (began : BeganCommand) → map.get (machine_of book).running number ≡ Some began
@@ -161,7 +147,8 @@ moved book actor number callers after = record book {
 }
 
 module _ (book : Plain) (actor : Actor) (it : Running) (callers : List Actor) (after : After)
-    (whole : Whole book) (runs : map.get book.docket.running actor ≡ Some it) (moves : Moves book actor it.number after) where
+    (whole : Whole book) (runs : map.get book.docket.running actor ≡ Some it)
+    (moves : Moves book actor it.number after) where
   abbrev then : Machine
   then = machine_then book after
 
@@ -185,7 +172,8 @@ module _ (book : Plain) (actor : Actor) (it : Running) (callers : List Actor) (a
       → WasGiven book.docket book.ledger.entries n began
   given-then n began at = elim (decide_key nat_cmp_total nat_cmp-IsAntisymmetric n it.number) [
     | inl same ↦
-        let own : began ≡ moves.mine.began = some_same began moves.mine.began (sym at ∙ ap (map.get then.running) same ∙ moves.mine.at) in
+        let own : began ≡ moves.mine.began =
+        same_Some began moves.mine.began (sym at ∙ ap (map.get then.running) same ∙ moves.mine.at) in
         let was = whole.numbers.given it.number mine_before.began mine_before.at in record {
           given = ap (slice_get book.docket.commands) same ∙ was.given
               ∙ ap Some (sym (ap (λ b. b.command) own ∙ moves.same_command mine_before.began mine_before.at));
@@ -205,7 +193,8 @@ module _ (book : Plain) (actor : Actor) (it : Running) (callers : List Actor) (a
     few = whole.numbers.few;
   }
   numbers-then (Some entry) is quiet =
-      numbers-quiet book.docket book.ledger.entries (machine_of book) entry quiet then whole.numbers moves.boot given-then
+      numbers-quiet book.docket book.ledger.entries
+      (machine_of book) entry quiet then whole.numbers moves.boot given-then
 
   kept-run : (other : Actor) → other ≢ actor → (o : Running) → map.get running_then other ≡ Some o
       → RunsOn (ground_then book after) then other o
@@ -223,12 +212,15 @@ module _ (book : Plain) (actor : Actor) (it : Running) (callers : List Actor) (a
       → IsSomeAnd (map.get running_then (actor_of began.command)) (λ o. o.number ≡ n)
   all-then n began at = elim (decide_key nat_cmp_total nat_cmp-IsAntisymmetric n it.number) [
     | inl same ↦
-        let own : began ≡ moves.mine.began = some_same began moves.mine.began (sym at ∙ ap (map.get then.running) same ∙ moves.mine.at) in
-        subst (λ a. IsSomeAnd (map.get running_then a) (λ o. o.number ≡ n)) (sym (ap (λ b. actor_of b.command) own ∙ moves.mine.own))
+        let own : began ≡ moves.mine.began =
+        same_Some began moves.mine.began (sym at ∙ ap (map.get then.running) same ∙ moves.mine.at) in
+        subst (λ a. IsSomeAnd (map.get running_then a) (λ o. o.number ≡ n))
+        (sym (ap (λ b. actor_of b.command) own ∙ moves.mine.own))
         (subst (λ found. IsSomeAnd found (λ o. o.number ≡ n)) (sym here) (sym same))
     | inr differ ↦ at_actors actor
         (λ a. actor_of began.command ≡ a → IsSomeAnd (map.get running_then a) (λ o. o.number ≡ n))
-        (λ own. absurd (differ (sym (alone (subst (λ a. IsSomeAnd (map.get book.docket.running a) (λ o. o.number ≡ n)) own
+        (λ own. absurd
+        (differ (sym (alone (subst (λ a. IsSomeAnd (map.get book.docket.running a) (λ o. o.number ≡ n)) own
         (whole.all n began (sym (moves.on_machine n differ) ∙ at)))))))
         (λ other apart own. subst (λ found. IsSomeAnd found (λ o. o.number ≡ n)) (sym (there other apart))
         (subst (λ a. IsSomeAnd (map.get book.docket.running a) (λ o. o.number ≡ n)) own
@@ -248,10 +240,11 @@ module _ (book : Plain) (actor : Actor) (it : Running) (callers : List Actor) (a
         (λ o at. stands.1 actor it runs) (λ other differ o at. stands.1 other o (sym (there other differ) ∙ at)),
   )
   stands-then Halted is stands =
-      absurd (no_some it (sym (map.get-empty actor_cmp actor) ∙ ap (λ m. map.get m actor) (sym stands.2) ∙ runs))
+      absurd (none-some it (sym (map.get-empty actor_cmp actor) ∙ ap (λ m. map.get m actor) (sym stands.2) ∙ runs))
 
   -- so the Book is whole, where the charges are
-  pub whole-moved : IsCharged (moved book actor it.number callers after) → Whole (moved book actor it.number callers after)
+  pub whole-moved : IsCharged (moved book actor it.number callers after)
+      → Whole (moved book actor it.number callers after)
   whole-moved charged =
       whole-of (moved book actor it.number callers after) then (machine-with book.ledger.entries after.entry)
       (legal-with book.ledger.entries after.entry whole.legal moves.may) whole.short charged (record {
@@ -260,7 +253,8 @@ module _ (book : Plain) (actor : Actor) (it : Running) (callers : List Actor) (a
         numbers = numbers-running book.docket (with_entry book.ledger.entries after.entry) then running_then
             (numbers-then after.entry refl moves.quiet);
         run = at_actors actor _
-            (λ o at. subst (RunsOn (ground_then book after) then actor) (some_same it_then o (sym here ∙ at)) moves.mine) kept-run;
+            (λ o at. subst (RunsOn (ground_then book after) then actor)
+            (same_Some it_then o (sym here ∙ at)) moves.mine) kept-run;
         all = all-then;
         phase = subst (λ p. PhaseStands p (moved book actor it.number callers after) then) (sym moves.phase)
             (stands-then book.tracker.phase refl whole.phase);

@@ -1,4 +1,5 @@
--- The docket and the journal tell the same after each kind of entry, after a command was given out, and after a restart.
+-- The docket and the journal tell the same after each kind of entry, after a command was given out, and after a
+-- restart.
 use Rattle.std.proofs.Common.{◌≡◌, ℕ, ◌+◌, ◌≤◌, List, [], ◌∷◌, ◌++◌, length, refl, sym, ap, ◌∙◌, subst, arith}
 use Rattle.std.proofs.Common.{cond, true, false, length-append}
 use Rattle.std.specs.Prelude.{Bool, Some, Contains, unwrap_or}
@@ -58,7 +59,8 @@ all_given-push commands command (entry ∷ entries) all =
 pub begun-quiet : (entries : List Entry) (entry : Entry) → number_begun entry ≡ []
     → numbers_begun (entries ++ entry ∷ []) ≡ numbers_begun entries
 begun-quiet entries entry none =
-    numbers_begun-append entries entry ∙ ap (λ ns. numbers_begun entries ++ ns) none ∙ append-nil (numbers_begun entries)
+    numbers_begun-append entries entry ∙ ap (λ ns. numbers_begun entries ++ ns) none
+    ∙ append-nil (numbers_begun entries)
 
 module _ (docket : Docket) (entries : List Entry) (machine : Machine) (entry : Entry) (quiet : IsQuiet entry) where
   -- what a command that began was given stays
@@ -75,7 +77,8 @@ module _ (docket : Docket) (entries : List Entry) (machine : Machine) (entry : E
       → WasGiven docket entries number began)
       → Numbers docket (entries ++ entry ∷ []) machine'
   numbers-quiet machine' stand boot given = record {
-    accounted = subst (λ ns. Accounted actor_of ns docket) (sym (begun-quiet entries entry quiet.number)) stand.accounted;
+    accounted =
+        subst (λ ns. Accounted actor_of ns docket) (sym (begun-quiet entries entry quiet.number)) stand.accounted;
     as_given = all_given-append docket.commands entries entry stand.as_given (quiet.given docket.commands);
     given = λ number began at. given-quiet number began (given number began at);
     counts = λ actor. stand.counts actor
@@ -88,7 +91,9 @@ module _ (docket : Docket) (entries : List Entry) (machine : Machine) (entry : E
 pub numbers-running : (docket : Docket) (entries : List Entry) (machine : Machine) (running : _)
     → Numbers docket entries machine → Numbers (record docket { running = running }) entries machine
 numbers-running docket entries machine running stand = record {
-  accounted = accounted-same actor_of (numbers_begun entries) docket (record docket { running = running }) stand.accounted refl refl;
+  accounted =
+      accounted-same actor_of (numbers_begun entries) docket
+      (record docket { running = running }) stand.accounted refl refl;
   as_given = stand.as_given;
   given = λ number began at. let was = stand.given number began at in record { given = was.given; begun = was.begun };
   counts = stand.counts;
@@ -97,7 +102,8 @@ numbers-running docket entries machine running stand = record {
 }
 
 -- no more commands of an actor began in this boot than commands began
-counted : (actor : Actor) (count : ℕ) (entry : Entry) → count_after actor count entry ≤ count + length (number_begun entry)
+counted : (actor : Actor) (count : ℕ) (entry : Entry)
+    → count_after actor count entry ≤ count + length (number_begun entry)
 counted actor count (Began n a c) = either _
   where
     either : (t : Bool) → cond t (count + 1) count ≤ count + 1

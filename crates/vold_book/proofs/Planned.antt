@@ -16,7 +16,7 @@ use Rattle.user_world.specs.Timelines.{Timeline, own_of}
 use Rattle.user_world.specs.Turns.{TurnShows}
 use Rattle.user_world.proofs.Timelines.{view-shown}
 use Rattle.user_tasks.specs.Clearing.{IsNextToClear}
-use Rattle.user_tasks.specs.Create.{scene_of}
+use Rattle.user_tasks.specs.Scenes.{scene_of}
 use Rattle.user_tasks.specs.Tasks.{UserTask, user_of, rest_of, UserTurns}
 use Rattle.vold_book.specs.declared.recovery.Recovery.{Recovery}
 use Rattle.vold_book.specs.declared.tasks.Running.{Running}
@@ -37,7 +37,8 @@ none_alike None (Some b) same none = cc
 none_alike (Some a) (Some b) same none = cc
 
 -- what the known places have in the way is what the user's part of the view has
-next-to-clear : (places : PlaceMap) (tree : Tree) (user : ℕ) (part : Part) → KnowsPlaces places tree → part ≡ part_of tree user
+next-to-clear : (places : PlaceMap) (tree : Tree) (user : ℕ) (part : Part) → KnowsPlaces places tree
+    → part ≡ part_of tree user
     → (site : Option Site) → IsNextSite places user site → IsNextToClear part site
 next-to-clear places tree user part knows is None none = λ site way.
     ap (λ p. p site) is ∙ none_alike (map.get places (place_of user site)) (map.get tree (place_of user site))
@@ -46,7 +47,8 @@ next-to-clear places tree user part knows is (Some site) next =
     (next.0, ap (λ p. is_some (p site)) is ∙ sym (knows (place_of user site)) ∙ next.1)
 
 module _ (book : Plain) (whole : Whole book) (actor : Actor) (number : ℕ) where
-  module _ (task : UserTask) (runs : map.get book.docket.running actor ≡ Some (record { number = number; task = Using task })) where
+  module _ (task : UserTask)
+      (runs : map.get book.docket.running actor ≡ Some (record { number = number; task = Using task })) where
     abbrev user : ℕ
     user = user_of task
 
@@ -54,7 +56,9 @@ module _ (book : Plain) (whole : Whole book) (actor : Actor) (number : ℕ) wher
     on = whole.run actor (record { number = number; task = Using task }) runs
 
     known : KnowsPlaces book.places (view book.tree.disk)
-    known = subst (λ phase. PhaseStands phase book (machine_of book)) (user-up book actor number task whole runs on) whole.phase
+    known =
+        subst (λ phase. PhaseStands phase book (machine_of book))
+        (user-up book actor number task whole runs on) whole.phase
 
     abbrev line : Timeline
     line = timeline book.tree.disk (machine_of book)
@@ -107,10 +111,12 @@ module _ (book : Plain) (whole : Whole book) (actor : Actor) (number : ℕ) wher
       runs = runs;
       on = recovers;
       shows = shown-recovery next (turns (ground_of book) refl
-          (is-dirty dirty book.tracker.pending book.tree.disk.pending whole.agrees.pending iff) whole.worlds recovers.stands.1);
+          (is-dirty dirty book.tracker.pending book.tree.disk.pending whole.agrees.pending iff)
+          whole.worlds recovers.stands.1);
     }
 
-module _ (book : Plain) (whole : Whole book) (actor : Actor) (it : Running) (runs : map.get book.docket.running actor ≡ Some it) where
+module _ (book : Plain) (whole : Whole book) (actor : Actor) (it : Running)
+    (runs : map.get book.docket.running actor ≡ Some it) where
   at_task : (task : Task) (next : Next Task) → it.task ≡ task
       → (map.get book.docket.running actor ≡ Some (record { number = it.number; task = task })
       → Plans book actor (record { number = it.number; task = task }) next) → Plans book actor it next
@@ -119,9 +125,11 @@ module _ (book : Plain) (whole : Whole book) (actor : Actor) (it : Running) (run
       → Plans book actor (record { number = it.number; task = t }) next)) (sym is) plans runs
 
   pub planned-user : (task : UserTask) (site : Option Site) (next : Next UserTask) → it.task ≡ Using task
-      → IsNextSite book.places (user_of task) site → UserTurns book.seed task site next → Plans book actor it (as_user next)
+      → IsNextSite book.places (user_of task) site → UserTurns book.seed task site next
+      → Plans book actor it (as_user next)
   planned-user task site next is clear turns =
-      at_task (Using task) (as_user next) is (λ at. planned-own book whole actor it.number task at site next clear turns)
+      at_task (Using task) (as_user next) is
+      (λ at. planned-own book whole actor it.number task at site next clear turns)
 
   pub planned-recovery : (recovery : Recovery) (dirty : Bool) (next : Next Recovery) → it.task ≡ Recovers recovery
       → (IsTrue dirty ↔ ¬ (book.tracker.pending ≡ [])) → RecoveryTurns book.places dirty recovery next

@@ -1,10 +1,10 @@
 -- A recovery's next turn shows what it has to, and a call of it leaves the Book what it has to be left.
-use Rattle.std.proofs.Common.{◌≡◌, ◌≢◌, ℕ, Bool, true, false, List, [], ◌∷◌, refl, sym, ap, ◌∙◌, subst, arith}
-use Rattle.std.specs.Prelude.{Some, None, is_some, IsSome, IsSomeAnd, not}
+use Rattle.std.proofs.Common.{◌≡◌, ◌≢◌, ℕ, Bool, true, false, List, [], refl, sym, ap, ◌∙◌, subst, arith}
+use Rattle.std.proofs.lemmas.Option.{same_Some}
+use Rattle.std.specs.Prelude.{Some, None, is_some, IsSome, IsSomeAnd}
 use Rattle.std.specs.FinMap as map
 use Rattle.tree_model.specs.declared.places.Place.{Place}
 use Rattle.tree_model.specs.declared.places.Place.TheVariants.{De, Ce, Temp}
-use Rattle.tree_model.specs.declared.ops.Op.{Op as DiskOp}
 use Rattle.tree_model.specs.declared.sites.Site.{Site}
 use Rattle.tree_model.specs.declared.sites.Site.TheVariants.{Ce as CeSite, Temp as TempSite}
 use Rattle.tree_model.specs.declared.sites.LocalOp.TheVariants.{RemoveDir}
@@ -14,13 +14,12 @@ use Rattle.tree_model.specs.Counted.{Counts}
 use Rattle.tree_model.specs.Sites.{site_of, op_of}
 use Rattle.journal_model.specs.declared.commands.Actor.{Actor}
 use Rattle.journal_model.specs.declared.commands.Actor.TheVariants.{Boot}
-use Rattle.journal_model.specs.declared.commands.Reply.TheVariants.{Ended}
 use Rattle.journal_model.specs.declared.phase.Phase.TheVariants.{Up, Down}
 use Rattle.journal_model.specs.Machine.{Machine}
 use Rattle.user_world.specs.declared.turns.Call.{Call}
 use Rattle.user_world.specs.declared.turns.Call.TheVariants.{Op as OpCall, Sync, List as ListCall}
 use Rattle.user_world.specs.declared.turns.Next.{Next}
-use Rattle.user_world.specs.declared.turns.Next.TheVariants.{Call as CallNext, Reply as ReplyNext}
+use Rattle.user_world.specs.declared.turns.Next.TheVariants.{Call as CallNext}
 use Rattle.user_world.specs.OwnWorlds.{quiet}
 use Rattle.user_world.specs.Timelines.{Timeline, own_of, OwnWorldsStand}
 use Rattle.user_world.specs.Turns.{StepShows}
@@ -29,18 +28,18 @@ use Rattle.user_world.proofs.Timelines.{line-quiet, line-settled, view-shown}
 use Rattle.key_directory.specs.Rehearsal.{rehearsal}
 use Rattle.key_directory.proofs.Standing.{absent-record}
 use Rattle.vold_book.specs.declared.recovery.Recovery.{Recovery}
-use Rattle.vold_book.specs.declared.recovery.Recovery.TheVariants.{Listing, Sweeping, Swept}
+use Rattle.vold_book.specs.declared.recovery.Recovery.TheVariants.{Sweeping}
 use Rattle.vold_book.specs.declared.tasks.Running.{Running}
 use Rattle.vold_book.specs.declared.tasks.Task.TheVariants.{Recovery as Recovers}
 use Rattle.vold_book.specs.Calls.{Fits, Does, IsFailed}
-use Rattle.vold_book.specs.Places.{PlaceMap, KnowsPlaces, IsLeft, IsFirstLeft, NoneLeft}
-use Rattle.vold_book.specs.Recovery.{is_nothing, RecoveryCalls, RecoveryTurns}
+use Rattle.vold_book.specs.Places.{PlaceMap, KnowsPlaces, IsLeft, IsFirstLeft}
+use Rattle.vold_book.specs.Recovery.{RecoveryCalls, RecoveryTurns}
 use Rattle.vold_book.specs.State.{Plain, machine_of, timeline, ground_of}
 use Rattle.vold_book.specs.Tasks.{RunsOn}
 use Rattle.vold_book.specs.Whole.{PhaseStands, Whole}
 use Rattle.vold_book.proofs.StepsMade.{same-line, step-fits, step-told, step-failed, all-changes}
 use Rattle.vold_book.proofs.Known.{known-view}
-use Rattle.vold_book.proofs.Moves.{some_same, after_of, Moves}
+use Rattle.vold_book.proofs.Moves.{after_of, Moves}
 use Rattle.vold_book.proofs.Numbers.{quiet-synced}
 use Rattle.vold_book.proofs.Tracked.{ChangeIsTold, pending-noted, failed-durable, noted-stays}
 use Rattle.vold_book.proofs.UserTurns.{rests-down}
@@ -55,12 +54,16 @@ module _ (seed : List ℕ) (line : Timeline) (places : PlaceMap) (whole : OwnWor
       let none = absent-record seed line user whole (sym (knows (De user)) ∙ ap is_some left) in record {
         fits = subst (λ part. IsSome (part (CeSite slot))) (sym (view-shown user _ line whole.shows))
             (sym (knows (Ce user slot)) ∙ there);
-        noted = ap (λ found. kind_if (is_some found) DropKind) (absent-view (rehearsal seed) user (own_of user line) (whole.images user) none);
+        noted =
+            ap (λ found. kind_if (is_some found) DropKind)
+            (absent-view (rehearsal seed) user (own_of user line) (whole.images user) none);
         keeps = keeps-absent (rehearsal seed) user (own_of user line) (RemoveDir (CeSite slot)) none refl;
         leads = tt;
       }
   removes (Temp user) left there = record {
-    fits = subst (λ part. IsSome (part TempSite)) (sym (view-shown user _ line whole.shows)) (sym (knows (Temp user)) ∙ there);
+    fits =
+        subst (λ part. IsSome (part TempSite)) (sym (view-shown user _ line whole.shows))
+        (sym (knows (Temp user)) ∙ there);
     noted = refl;
     keeps = keeps-temp (rehearsal seed) user (own_of user line) (RemoveDir TempSite) refl (λ slot. refl);
     leads = tt;
@@ -72,17 +75,15 @@ module _ (places : PlaceMap) (dirty : Bool) (recovery : Recovery) where
       → RecoveryTurns places dirty recovery next
   at_stage stage next is turns = subst (λ r. RecoveryTurns places dirty r next) (sym is) turns
 
-  pub list-turn : recovery ≡ Listing → RecoveryTurns places dirty recovery (CallNext ListCall None Sweeping)
-  list-turn is = at_stage Listing (CallNext ListCall None Sweeping) is (λ ground known is_dirty whole rests.
-      (refl, λ places' knows. (rests, knows), omega arith, omega arith))
-
   pub remove-turn : (place : Place) (user : ℕ) (site : Site) → recovery ≡ Sweeping → user ≡ user_of place
       → site ≡ site_of place → IsFirstLeft places (Some place)
       → RecoveryTurns places dirty recovery (CallNext (OpCall user (RemoveDir site)) None Sweeping)
   remove-turn place user site is is_user is_site first =
       at_stage Sweeping (CallNext (OpCall user (RemoveDir site)) None Sweeping) is
-      (subst (λ u. RecoveryTurns places dirty Sweeping (CallNext (OpCall u (RemoveDir site)) None Sweeping)) (sym is_user)
-      (subst (λ s. RecoveryTurns places dirty Sweeping (CallNext (OpCall (user_of place) (RemoveDir s)) None Sweeping)) (sym is_site)
+      (subst (λ u. RecoveryTurns places dirty Sweeping (CallNext (OpCall u (RemoveDir site)) None Sweeping))
+      (sym is_user)
+      (subst (λ s. RecoveryTurns places dirty Sweeping
+      (CallNext (OpCall (user_of place) (RemoveDir s)) None Sweeping)) (sym is_site)
       (λ ground known is_dirty whole rests.
       let left : IsLeft ground.places place × IsSome (map.get ground.places place) =
       subst (λ p. IsLeft p place × IsSome (map.get p place)) (sym known) (first.0, first.1) in
@@ -100,42 +101,6 @@ module _ (places : PlaceMap) (dirty : Bool) (recovery : Recovery) where
         omega arith,
         omega arith,
       ))))
-
-  pub sync-turn : recovery ≡ Sweeping → IsFirstLeft places None
-      → RecoveryTurns places dirty recovery (CallNext Sync None Swept)
-  sync-turn is none = at_stage Sweeping (CallNext Sync None Swept) is (λ ground known is_dirty whole rests. (
-    refl,
-    (
-      rests.0,
-      record {
-        known = rests.1;
-        none = subst (λ p. NoneLeft p (IsLeft p)) (sym known) none;
-      },
-      refl,
-    ),
-    omega arith,
-    omega arith,
-  ))
-
-  -- it ends where nothing is left and nothing is pending
-  pub end-turn : recovery ≡ Sweeping → dirty ≡ false → IsFirstLeft places None
-      → RecoveryTurns places dirty recovery (ReplyNext (Ended 0))
-  end-turn is clean none = at_stage Sweeping (ReplyNext (Ended 0)) is (λ ground known is_dirty whole rests. record {
-    ended = refl;
-    tidy = record { known = rests.1; none = subst (λ p. NoneLeft p (IsLeft p)) (sym known) none };
-    still = nothing ground.line.disk.pending (sym is_dirty ∙ clean);
-  })
-    where
-      nothing : (ops : List DiskOp) → not (is_nothing ops) ≡ false → ops ≡ []
-      nothing [] e = refl
-      nothing (op ∷ ops) e = cc
-
-  pub swept-turn : recovery ≡ Swept → RecoveryTurns places dirty recovery (ReplyNext (Ended 0))
-  swept-turn is = at_stage Swept (ReplyNext (Ended 0)) is (λ ground known is_dirty whole rests. record {
-    ended = refl;
-    tidy = rests.1;
-    still = rests.2;
-  })
 
 module _ (book : Plain) (actor : Actor) (number : ℕ) (recovery : Recovery) (whole : Whole book)
     (runs : map.get book.docket.running actor ≡ Some (record { number = number; task = Recovers recovery }))
@@ -177,8 +142,11 @@ module _ (book : Plain) (actor : Actor) (number : ℕ) (recovery : Recovery) (wh
       subst (λ d. Moves book actor number (after_of book number (OpCall owner op) None (Recovers then)
       (record { tree = record { disk = d; counts = counts }; places = places; made = true }))) (sym done.0)
       (subst (λ p. Moves book actor number (after_of book number (OpCall owner op) None (Recovers then)
-      (record { tree = record { disk = with_op book.tree.disk (op_of owner op); counts = counts }; places = p; made = true })))
-      (sym done.1) (record {
+      (record {
+        tree = record { disk = with_op book.tree.disk (op_of owner op); counts = counts };
+        places = p;
+        made = true;
+      }))) (sym done.1) (record {
         may = tt;
         quiet = tt;
         agrees = record {
@@ -186,14 +154,16 @@ module _ (book : Plain) (actor : Actor) (number : ℕ) (recovery : Recovery) (wh
           boot = whole.agrees.boot;
           level = whole.agrees.level;
           durable = whole.agrees.durable;
-          pending = pending-noted book.tree.disk _ book.tracker whole.agrees.pending book.places _ (OpCall owner op) false true
+          pending =
+              pending-noted book.tree.disk _ book.tracker whole.agrees.pending book.places _
+              (OpCall owner op) false true
               (step-told book.seed owner line None [] whole.worlds op calls.0) (refl, refl);
         };
         worlds = (line-quiet (rehearsal book.seed) line owner op [] whole.worlds calls.0).stands;
         boot = refl;
         mine = record { began = on.began; at = on.at; own = on.own; stands = (on.stands.0, calls.1) };
         on_machine = λ n differ. refl;
-        same_command = λ b at. ap (λ c. c.command) (some_same on.began b (sym on.at ∙ at));
+        same_command = λ b at. ap (λ c. c.command) (same_Some on.began b (sym on.at ∙ at));
         others = λ other o differ at. absurd (nobody-else other o differ at);
         phase = refl;
         up = λ up. absurd (not_up up);
@@ -203,7 +173,8 @@ module _ (book : Plain) (actor : Actor) (number : ℕ) (recovery : Recovery) (wh
       subst (λ d. Moves book actor number (after_of book number Sync None (Recovers then)
       (record { tree = record { disk = d; counts = counts }; places = places; made = true }))) (sym done.0)
       (subst (λ p. Moves book actor number (after_of book number Sync None (Recovers then)
-      (record { tree = record { disk = synced book.tree.disk; counts = counts }; places = p; made = true }))) (sym done.1) (record {
+      (record { tree = record { disk = synced book.tree.disk; counts = counts }; places = p; made = true })))
+      (sym done.1) (record {
         may = (number, subst (λ found. IsSomeAnd found (λ b. b.verdict ≡ None)) (sym on.at) on.stands.0.verdict);
         quiet = quiet-synced;
         agrees = record {
@@ -217,7 +188,7 @@ module _ (book : Plain) (actor : Actor) (number : ℕ) (recovery : Recovery) (wh
         boot = refl;
         mine = record { began = on.began; at = on.at; own = on.own; stands = (on.stands.0, calls) };
         on_machine = λ n differ. refl;
-        same_command = λ b at. ap (λ c. c.command) (some_same on.began b (sym on.at ∙ at));
+        same_command = λ b at. ap (λ c. c.command) (same_Some on.began b (sym on.at ∙ at));
         others = λ other o differ at. absurd (nobody-else other o differ at);
         phase = refl;
         up = λ up. absurd (not_up up);
@@ -233,7 +204,7 @@ module _ (book : Plain) (actor : Actor) (number : ℕ) (recovery : Recovery) (wh
         boot = refl;
         mine = record { began = on.began; at = on.at; own = on.own; stands = (on.stands.0, calls places done.1) };
         on_machine = λ n differ. refl;
-        same_command = λ b at. ap (λ c. c.command) (some_same on.began b (sym on.at ∙ at));
+        same_command = λ b at. ap (λ c. c.command) (same_Some on.began b (sym on.at ∙ at));
         others = λ other o differ at. absurd (nobody-else other o differ at);
         phase = refl;
         up = λ up. absurd (not_up up);
@@ -254,14 +225,15 @@ module _ (book : Plain) (actor : Actor) (number : ℕ) (recovery : Recovery) (wh
           boot = whole.agrees.boot ∙ sym stays.boot;
           level = whole.agrees.level ∙ sym stays.level;
           durable = whole.agrees.durable ∙ sym (failed-durable call false book.tracker);
-          pending = pending-noted book.tree.disk disk book.tracker whole.agrees.pending book.places book.places call false false
-              (told call calls) (failed, refl);
+          pending =
+              pending-noted book.tree.disk disk book.tracker whole.agrees.pending book.places book.places
+              call false false (told call calls) (failed, refl);
         };
         worlds = kept call calls failed;
         boot = refl;
         mine = record { began = on.began; at = on.at; own = on.own; stands = on.stands.0.verdict };
         on_machine = λ n differ. refl;
-        same_command = λ b at. ap (λ c. c.command) (some_same on.began b (sym on.at ∙ at));
+        same_command = λ b at. ap (λ c. c.command) (same_Some on.began b (sym on.at ∙ at));
         others = λ other o differ at. absurd (nobody-else other o differ at);
         phase = stays.phase;
         up = λ up. absurd (not_up up);
@@ -275,6 +247,7 @@ module _ (book : Plain) (actor : Actor) (number : ℕ) (recovery : Recovery) (wh
 
       kept : (call : Call) → RecoveryCalls (ground_of book) call then → IsFailed book.tree.disk disk call
           → OwnWorldsStand (rehearsal book.seed) (record line { disk = disk })
-      kept (OpCall owner op) calls failed = (step-failed book.seed owner line None [] whole.worlds op disk calls.0 failed).stands
+      kept (OpCall owner op) calls failed =
+          (step-failed book.seed owner line None [] whole.worlds op disk calls.0 failed).stands
       kept Sync calls failed = (same-line book.seed 0 line disk whole.worlds failed).stands
       kept ListCall calls failed = (same-line book.seed 0 line disk whole.worlds failed).stands

@@ -1,26 +1,24 @@
 -- A turn that gives a reply keeps a Book whole.
 use Rattle.std.proofs.Common.{◌≡◌, ◌≢◌, ℕ, inl, inr, [], ◌∷◌, ◌++◌, refl, sym, ap, ◌∙◌, subst}
-use Rattle.std.specs.Prelude.{◌⊎◌, Option, Some, None, IsSomeAnd, Contains, slice_get}
+use Rattle.std.proofs.lemmas.Option.{none-some}
+use Rattle.std.specs.Prelude.{◌⊎◌, Some, None, IsSomeAnd, Contains, slice_get}
 use Rattle.std.specs.Cmp.{nat_cmp_total}
 use Rattle.std.specs.FinMap as map
 use Rattle.std.specs.FinMap.{nat_cmp-IsAntisymmetric}
 use Rattle.tree_model.specs.Disk.{view}
 use Rattle.tree_model.proofs.Maps.{get-remove_same, get-remove_other}
 use Rattle.journal_model.specs.declared.commands.Actor.{Actor}
-use Rattle.journal_model.specs.declared.commands.Actor.TheVariants.{User}
-use Rattle.journal_model.specs.declared.commands.Command.{Command}
-use Rattle.journal_model.specs.declared.commands.Command.TheVariants.{Create, Recover}
 use Rattle.journal_model.specs.declared.commands.Reply.{Reply}
-use Rattle.journal_model.specs.declared.commands.Reply.TheVariants.{Done, Ended, UserExists, Ready, TreeFault}
-use Rattle.journal_model.specs.declared.entries.Change.{Change}
+use Rattle.journal_model.specs.declared.commands.Reply.TheVariants.{Ended}
 use Rattle.journal_model.specs.declared.entries.Entry.TheVariants.{Replied}
 use Rattle.journal_model.specs.declared.phase.Phase.{Phase}
 use Rattle.journal_model.specs.declared.phase.Phase.TheVariants.{Up, Down, Halted}
 use Rattle.journal_model.specs.Actor.{actor_cmp, actor_total, actor_exact}
 use Rattle.journal_model.specs.Command.{actor_of}
-use Rattle.journal_model.specs.Machine.{Machine, Running as BeganCommand, after_entry, if_running, phase_after, IsDurable}
-use Rattle.journal_model.specs.Machine.{kind_of_reply, Success, Refusal as RefusalKind, Fault as FaultKind, AllowsSuccess, MayEnd, Succeeds, AllowsReply}
-use Rattle.journal_model.proofs.RefusalKinds.{phase-stays}
+use Rattle.journal_model.specs.Machine.{Machine, Running as BeganCommand, after_entry, if_running, phase_after}
+use Rattle.journal_model.specs.Machine.{IsDurable, kind_of_reply, Success, Refusal as RefusalKind, Fault as FaultKind}
+use Rattle.journal_model.specs.Machine.{AllowsSuccess, MayEnd, Succeeds, AllowsReply}
+use Rattle.journal_model.proofs.ByCommand.{phase-stays, success-more, user-stays}
 use Rattle.journal_model.proofs.Steps.{machine_after-append, legal-append}
 use Rattle.user_world.specs.declared.turns.Next.TheVariants.{Reply as ReplyNext}
 use Rattle.user_world.specs.Changes.{local_of}
@@ -36,27 +34,10 @@ use Rattle.vold_book.specs.Places.{IsTidy}
 use Rattle.vold_book.specs.State.{Plain, machine_of, timeline, ground_of}
 use Rattle.vold_book.specs.Tasks.{TaskStands, RunsOn, TaskShows, Plans}
 use Rattle.vold_book.specs.Turns.{after_reply}
-use Rattle.vold_book.specs.Whole.{PhaseStands, IsCharged, Whole}
-use Rattle.vold_book.proofs.Moves.{no_some, whole-of, runs_apart}
+use Rattle.vold_book.specs.Whole.{PhaseStands, IsCharged, AllRun, Whole}
+use Rattle.vold_book.proofs.Moves.{whole-of, runs_apart}
 use Rattle.vold_book.proofs.Numbers.{quiet-replied, numbers-quiet, numbers-running}
 use Rattle.vold_book.proofs.RecoveryTurns.{recovery-down, nobody-else}
-use Rattle.vold_book.proofs.UserTurns.{not_boot}
-
--- what tells a success of a user's world tells it of the log
-success-more : (Logged Logged' : Change → Type 0) (Durable Durable' : Option ℕ → Type 0) (boot : ℕ) (began : BeganCommand)
-    (command : Command) (reply : Reply) → ((change : Change) → Logged change → Logged' change)
-    → ((of : Option ℕ) → Durable of → Durable' of) → AllowsSuccess Logged Durable boot began command reply
-    → AllowsSuccess Logged' Durable' boot began command reply
-success-more L L' D D' boot began (Create user) Done logged durable success = (logged _ success.0, durable (Some user) success.1)
-success-more L L' D D' boot began (Create user) (Ended count) logged durable success = absurd success
-success-more L L' D D' boot began (Create user) UserExists logged durable success = absurd success
-success-more L L' D D' boot began (Create user) Ready logged durable success = absurd success
-success-more L L' D D' boot began (Create user) TreeFault logged durable success = absurd success
-success-more L L' D D' boot began Recover Done logged durable success = absurd success
-success-more L L' D D' boot began Recover (Ended count) logged durable success = (success.0, durable None success.1)
-success-more L L' D D' boot began Recover UserExists logged durable success = absurd success
-success-more L L' D D' boot began Recover Ready logged durable success = absurd success
-success-more L L' D D' boot began Recover TreeFault logged durable success = absurd success
 
 module _ (book : Plain) (actor : Actor) (it : Running) (reply : Reply) (whole : Whole book)
     (plans : Plans book actor it (ReplyNext reply)) where
@@ -96,30 +77,30 @@ module _ (book : Plain) (actor : Actor) (it : Running) (reply : Reply) (whole : 
       (subst (λ t. map.get book.docket.running actor ≡ Some (record { number = it.number; task = t })) is plans.runs)
       (subst (λ t. RunsOn (ground_of book) machine actor (record { number = it.number; task = t })) is plans.on)
     where
-      user-stays : (user : ℕ) (command : Command) → actor_of command ≡ User user
-          → phase_after machine.phase command reply ≡ machine.phase
-      user-stays user (Create owner) own = refl
-      user-stays user Recover own = absurd (not_boot user own)
-
-      by : (task : Task) → TaskStands (ground_of book) task began → TaskShows (ground_of book) began task (ReplyNext reply)
+      by : (task : Task) → TaskStands (ground_of book) task began
+          → TaskShows (ground_of book) began task (ReplyNext reply)
           → map.get book.docket.running actor ≡ Some (record { number = it.number; task = task })
           → RunsOn (ground_of book) machine actor (record { number = it.number; task = task }) → Ends
       by (Using task) stands shows runs on =
           let user = user_of task in
           let line = timeline book.tree.disk machine in record {
-            may = none-allows stands.accepted (subst (λ kind. MayEnd kind (Succeeds machine began reply)) (sym shows.success)
-                (success-more (IsLogged user (own_of user line)) _ (AreDurable user (own_of user line)) (IsDurable machine)
-                machine.boot began began.command reply
-                (λ change logged. subst (Contains machine.log) (owned-change change user logged.0)
+            may =
+                none-allows stands.accepted
+                (subst (λ kind. MayEnd kind (Succeeds machine began reply)) (sym shows.success)
+                (success-more (IsLogged user (own_of user line)) _ (AreDurable user (own_of user line))
+                (IsDurable machine) (λ change logged. subst (Contains machine.log) (owned-change change user logged.0)
                 (logged-shown user _ line whole.worlds.shows (local_of change) logged.1))
-                (λ of durable. subst (IsDurable machine) (sym durable.0) (durable-shown user _ line whole.worlds.shows durable.1))
-                shows.may));
-            goes = inl (user-stays user began.command stands.of_user);
+                (λ of durable. subst (IsDurable machine) (sym durable.0)
+                (durable-shown user _ line whole.worlds.shows durable.1))
+                machine.boot began began.command reply shows.may));
+            goes = inl (user-stays machine.phase user began.command reply stands.of_user);
           }
       by (Recovers recovery) stands shows runs on =
           let down = recovery-down book actor it.number recovery whole runs on in
           let durable = (subst (λ phase. PhaseStands phase book machine) down whole.phase).0 in record {
-            may = none-allows stands.0.verdict (subst (λ r. MayEnd (kind_of_reply r) (Succeeds machine began r)) (sym shows.ended)
+            may =
+                none-allows stands.0.verdict
+                (subst (λ r. MayEnd (kind_of_reply r) (Succeeds machine began r)) (sym shows.ended)
                 (subst (λ c. AllowsSuccess (Contains machine.log) (IsDurable machine) machine.boot began c (Ended 0))
                 (sym stands.0.command) (refl, durable)));
             goes = inr (record {
@@ -156,7 +137,7 @@ module _ (book : Plain) (actor : Actor) (it : Running) (reply : Reply) (whole : 
   given = (whole.numbers.given it.number began plans.on.at).given
 
   gone : (n : ℕ) (b : BeganCommand) → map.get machine'.running n ≡ Some b → n ≢ it.number
-  gone n b at same = no_some b (sym (get-remove_same nat_cmp_total nat_cmp-IsAntisymmetric machine.running it.number)
+  gone n b at same = none-some b (sym (get-remove_same nat_cmp_total nat_cmp-IsAntisymmetric machine.running it.number)
       ∙ ap (map.get machine'.running) (sym same) ∙ at)
 
   was_on : (n : ℕ) (b : BeganCommand) → map.get machine'.running n ≡ Some b → map.get machine.running n ≡ Some b
@@ -167,10 +148,11 @@ module _ (book : Plain) (actor : Actor) (it : Running) (reply : Reply) (whole : 
   running' = map.remove book.docket.running actor
 
   not_mine : (other : Actor) (o : Running) → map.get running' other ≡ Some o → other ≢ actor
-  not_mine other o at same = no_some o (sym (get-remove_same actor_total actor_exact book.docket.running actor)
+  not_mine other o at same = none-some o (sym (get-remove_same actor_total actor_exact book.docket.running actor)
       ∙ ap (map.get running') (sym same) ∙ at)
 
-  was_run : (other : Actor) (o : Running) → map.get running' other ≡ Some o → map.get book.docket.running other ≡ Some o
+  was_run : (other : Actor) (o : Running) → map.get running' other ≡ Some o
+      → map.get book.docket.running other ≡ Some o
   was_run other o at =
       sym (get-remove_other actor_total actor_exact book.docket.running actor other (not_mine other o at)) ∙ at
 
@@ -193,14 +175,14 @@ module _ (book : Plain) (actor : Actor) (it : Running) (reply : Reply) (whole : 
         stands = same-phase other o at (ends it.task refl).goes run.began run.stands;
       }
 
-  all-then : (n : ℕ) (b : BeganCommand) → map.get machine'.running n ≡ Some b
-      → IsSomeAnd (map.get running' (actor_of b.command)) (λ o. o.number ≡ n)
+  all-then : AllRun machine' running'
   all-then n b at =
       let was = whole.all n b (was_on n b at) in
       subst (λ found. IsSomeAnd found (λ o. o.number ≡ n))
       (sym (get-remove_other actor_total actor_exact book.docket.running actor (actor_of b.command) (not-own was))) was
     where
-      not-own : IsSomeAnd (map.get book.docket.running (actor_of b.command)) (λ o. o.number ≡ n) → actor_of b.command ≢ actor
+      not-own : IsSomeAnd (map.get book.docket.running (actor_of b.command)) (λ o. o.number ≡ n)
+          → actor_of b.command ≢ actor
       not-own was same = gone n b at (sym (subst (λ found. IsSomeAnd found (λ o. o.number ≡ n))
           (ap (map.get book.docket.running) same ∙ plans.runs) was))
 
@@ -215,7 +197,8 @@ module _ (book : Plain) (actor : Actor) (it : Running) (reply : Reply) (whole : 
   stands-then Down is stands (inl same) = subst (λ p. PhaseStands p after machine') (sym (phase-is ∙ same ∙ is))
       (stands.0, λ other o at. stands.1 other o (was_run other o at))
   stands-then Halted is stands (inl same) =
-      absurd (no_some it (sym (map.get-empty actor_cmp actor) ∙ ap (λ m. map.get m actor) (sym stands.2) ∙ plans.runs))
+      absurd (none-some it
+      (sym (map.get-empty actor_cmp actor) ∙ ap (λ m. map.get m actor) (sym stands.2) ∙ plans.runs))
 
   pub whole-replied : IsCharged after → Whole after
   whole-replied charged =
@@ -235,20 +218,13 @@ module _ (book : Plain) (actor : Actor) (it : Running) (reply : Reply) (whole : 
         };
         worlds = whole.worlds;
         numbers = numbers-running book.docket (book.ledger.entries ++ entry ∷ []) machine' running'
-            (numbers-quiet book.docket book.ledger.entries machine entry (quiet-replied it.number reply) machine' whole.numbers refl
+            (numbers-quiet book.docket book.ledger.entries machine entry
+            (quiet-replied it.number reply) machine' whole.numbers refl
             (λ n b at. whole.numbers.given n b (was_on n b at)));
         run = run-then;
         all = all-then;
         phase = subst (λ p. PhaseStands p after machine') phase
-            (stands-then machine.phase refl (subst (λ p. PhaseStands p book machine) (sym whole.agrees.phase) whole.phase)
+            (stands-then machine.phase refl
+            (subst (λ p. PhaseStands p book machine) (sym whole.agrees.phase) whole.phase)
             (ends it.task refl).goes);
       })
-
-  -- the machine comes up only where nothing is half made
-  pub comes-up : book.tracker.phase ≢ Up → after.tracker.phase ≡ Up
-      → IsTidy book.places (view book.tree.disk) × (book.tree.disk.pending ≡ [])
-  comes-up down up = elim (ends it.task refl).goes [
-    | inl same ↦ absurd (down (sym (same ∙ whole.agrees.phase)
-        ∙ ap (λ p. phase_after p began.command reply) whole.agrees.phase ∙ up))
-    | inr recovered ↦ (recovered.tidy, recovered.still)
-  ]

@@ -3,7 +3,8 @@ use Rattle.std.proofs.Common.{◌≡◌, ◌≢◌, ◌+◌, ◌<◌, refl, sym,
 use Rattle.std.specs.Prelude.{Option}
 use Rattle.journal_model.specs.declared.commands.Reply.{Reply}
 use Rattle.journal_model.specs.declared.commands.Reply.TheVariants.{Ended, TreeFault}
-use Rattle.journal_model.specs.Machine.{Running as Began, kind_of_reply, Success, Refusal as RefusalKind, Fault as FaultKind}
+use Rattle.journal_model.specs.Machine.{Running as Began, kind_of_reply, Success}
+use Rattle.journal_model.specs.Machine.{Refusal as RefusalKind, Fault as FaultKind}
 use Rattle.user_world.specs.declared.changes.LocalChange.{LocalChange}
 use Rattle.user_world.specs.declared.turns.Call.{Call}
 use Rattle.user_world.specs.declared.turns.Next.TheVariants.{Call as CallNext, Reply as ReplyNext}
@@ -50,7 +51,8 @@ module _ (ground : Ground) (began : Began) where
   call-falls call change Fault then shows = absurd shows
 
   -- that the device failed is told only where it was due
-  pub reply-told : (reply : Reply) (task : Task) → TaskStands ground task began → TaskShows ground began task (ReplyNext reply)
+  pub reply-told : (reply : Reply) (task : Task) → TaskStands ground task began
+      → TaskShows ground began task (ReplyNext reply)
       → reply ≡ TreeFault → task ≡ Fault
   reply-told reply (Using task) stands shows is = absurd (success_fault (sym shows.success ∙ ap kind_of_reply is))
     where
@@ -68,7 +70,8 @@ module _ (ground : Ground) (began : Began) where
   reply-told reply Fault stands shows is = refl
 
   -- and a task that replies had a turn left
-  pub reply-lasts : (reply : Reply) (task : Task) → TaskShows ground began task (ReplyNext reply) → 0 < turns_of_task task
+  pub reply-lasts : (reply : Reply) (task : Task) → TaskShows ground began task (ReplyNext reply)
+      → 0 < turns_of_task task
   reply-lasts reply (Using task) shows = shows.lasts
   reply-lasts reply (Recovers Listing) shows = omega arith
   reply-lasts reply (Recovers Sweeping) shows = omega arith

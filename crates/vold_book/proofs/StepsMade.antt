@@ -1,10 +1,11 @@
--- What any task's call rests on: a step that shows what it has to may be made, its change is told rightly, and where it
--- fails every user's world is kept.
+-- What any task's call rests on: a step that shows what it has to may be made, its change is told rightly, and where
+-- it fails every user's world is kept.
 use Rattle.std.proofs.Common.{◌≡◌, ◌≢◌, ℕ, ◌+◌, inl, List, length, refl, sym, ap, ◌∙◌, subst, arith}
 use Rattle.std.specs.Prelude.{Option, Some, None, is_some}
 use Rattle.tree_model.specs.declared.ops.Fill.TheVariants.{Bytes}
 use Rattle.tree_model.specs.declared.sites.LocalOp.{LocalOp}
-use Rattle.tree_model.specs.declared.sites.LocalOp.TheVariants.{MakeDir, Write, RenameFile, RenameDir, RemoveFile, RemoveDir}
+use Rattle.tree_model.specs.declared.sites.LocalOp.TheVariants.{MakeDir, Write, RenameFile}
+use Rattle.tree_model.specs.declared.sites.LocalOp.TheVariants.{RenameDir, RemoveFile, RemoveDir}
 use Rattle.tree_model.specs.Tree.{kind_of}
 use Rattle.tree_model.specs.Disk.{Disk, view}
 use Rattle.tree_model.specs.Sites.{op_of}
@@ -45,12 +46,14 @@ no_note (Some change) e = cc
 module _ (seed : List ℕ) (user : ℕ) (line : Timeline) (change : Option LocalChange) (next : List Fact)
     (stands : OwnWorldsStand (rehearsal seed) line) where
   -- the device's conditions hold of the view
-  pub step-fits : (op : LocalOp) → StepShows (rehearsal seed) user (own_of user line) (record { op = op; note = change }) next
+  pub step-fits : (op : LocalOp)
+      → StepShows (rehearsal seed) user (own_of user line) (record { op = op; note = change }) next
       → LocalFits (part_of (view line.disk) user) op
   step-fits op shows = subst (λ part. LocalFits part op) (view-shown user _ line stands.shows) shows.fits
 
   -- whether it makes a change is told rightly
-  pub step-told : (op : LocalOp) → StepShows (rehearsal seed) user (own_of user line) (record { op = op; note = change }) next
+  pub step-told : (op : LocalOp)
+      → StepShows (rehearsal seed) user (own_of user line) (record { op = op; note = change }) next
       → is_some change ≡ is_some (kind_of (view line.disk) (op_of user op))
   step-told op shows =
       sym (ap is_some (kind-own (view line.disk) user op
@@ -77,5 +80,6 @@ pub all-changes : (book : Plain) → Whole book
 all-changes book whole =
     let counted = whole.images.counted in
     let durable = whole.agrees.durable in
-    let same = ap count_changes whole.agrees.pending ∙ count-changes_made book.tree.disk.stable book.tree.disk.pending in
+    let same = ap count_changes whole.agrees.pending
+    ∙ count-changes_made book.tree.disk.stable book.tree.disk.pending in
     omega (arith, counted, durable, same)

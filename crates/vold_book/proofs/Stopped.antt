@@ -1,5 +1,7 @@
 -- A Book as it is opened is whole, and a stop, a restart and a command that is given out keep it whole.
-use Rattle.std.proofs.Common.{◌≡◌, ◌≢◌, ℕ, ◌+◌, ◌≤◌, ◌<◌, inl, List, [], ◌∷◌, ◌++◌, length, refl, sym, ap, ◌∙◌, subst, arith, length-append}
+use Rattle.std.proofs.Common.{◌≡◌, ◌≢◌, ℕ, ◌+◌, ◌≤◌, ◌<◌, inl, List, [], ◌∷◌, ◌++◌}
+use Rattle.std.proofs.Common.{length, refl, sym, ap, ◌∙◌, subst, arith, length-append}
+use Rattle.std.proofs.lemmas.Option.{none-some}
 use Rattle.std.specs.Prelude.{Option, Some, None, IsSomeAnd, is_some, min, unwrap_or}
 use Rattle.std.specs.Ordering.{nat_cmp}
 use Rattle.std.specs.FinMap as map
@@ -26,7 +28,8 @@ use Rattle.journal_model.specs.Users.{fold_changes}
 use Rattle.journal_model.proofs.Steps.{machine_after-append, legal-append, begun_by-append}
 use Rattle.docket.specs.Docket.{with_command as docket_with, with_first_command}
 use Rattle.docket.specs.Accounts.{Accounted}
-use Rattle.docket.proofs.Accounts.{accounted-empty, accounted-given, accounted-given_first, accounted-same, get-stays, sum-empty}
+use Rattle.docket.proofs.Accounts.{accounted-empty, accounted-given}
+use Rattle.docket.proofs.Accounts.{accounted-given_first, accounted-same, get-stays, sum-empty}
 use Rattle.user_world.specs.Meaning.{StandsFor, UserStands}
 use Rattle.user_world.specs.Timelines.{survivors}
 use Rattle.user_world.proofs.Timelines.{line-stopped, line-still}
@@ -36,8 +39,9 @@ use Rattle.vold_book.specs.State.{Docket, Plain, machine_of, timeline}
 use Rattle.vold_book.specs.Stops.{after_stop, after_restart}
 use Rattle.vold_book.specs.Turns.{new_book, opened_at, with_command}
 use Rattle.vold_book.specs.Whole.{Numbers, PhaseStands, IsCharged, Whole, max_commands, due_of}
-use Rattle.vold_book.proofs.Moves.{no_some, whole-of}
-use Rattle.vold_book.proofs.Numbers.{quiet-stopped, numbers-quiet, numbers-running, begun-quiet, all_given-append, all_given-push}
+use Rattle.vold_book.proofs.Moves.{whole-of}
+use Rattle.vold_book.proofs.Numbers.{quiet-stopped, numbers-quiet, numbers-running}
+use Rattle.vold_book.proofs.Numbers.{begun-quiet, all_given-append, all_given-push}
 
 module _ (book : Plain) (whole : Whole book) where
   abbrev machine : Machine
@@ -49,7 +53,8 @@ module _ (book : Plain) (whole : Whole book) where
     survived = survivors (timeline book.tree.disk machine) cut.keep
 
     abbrev halted : Plain
-    halted = after_stop book (record { disk = stopped book.tree.disk cut.keep cut.fills; counts = counts }) cut survived
+    halted =
+        after_stop book (record { disk = stopped book.tree.disk cut.keep cut.fills; counts = counts }) cut survived
 
     abbrev machine' : Machine
     machine' = after_entry book.ledger.entries machine (Stopped survived)
@@ -57,7 +62,8 @@ module _ (book : Plain) (whole : Whole book) where
     within : survived ≤ length machine.log
     within =
         let all = whole.images.counted in
-        let front = changes_in-take book.tree.disk.stable book.tree.disk.pending (min cut.keep (length book.tree.disk.pending)) in
+        let front = changes_in-take book.tree.disk.stable book.tree.disk.pending
+        (min cut.keep (length book.tree.disk.pending)) in
         omega (arith, all, front)
 
     pub whole-stopped : IsCharged halted → Whole halted
@@ -72,17 +78,20 @@ module _ (book : Plain) (whole : Whole book) where
             durable = refl;
             pending = refl;
           };
-          worlds = line-stopped (rehearsal book.seed) (timeline book.tree.disk machine) cut.keep cut.fills whole.worlds;
+          worlds =
+              line-stopped (rehearsal book.seed) (timeline book.tree.disk machine) cut.keep cut.fills whole.worlds;
           numbers = numbers-running book.docket (book.ledger.entries ++ Stopped survived ∷ []) machine' map.empty
-              (numbers-quiet book.docket book.ledger.entries machine (Stopped survived) (quiet-stopped survived) machine'
-              whole.numbers refl (λ n b at. absurd (no_some b (sym (map.get-empty nat_cmp n) ∙ at))));
-          run = λ actor it at. absurd (no_some it (sym (map.get-empty actor_cmp actor) ∙ at));
-          all = λ n b at. absurd (no_some b (sym (map.get-empty nat_cmp n) ∙ at));
+              (numbers-quiet book.docket book.ledger.entries machine (Stopped survived)
+              (quiet-stopped survived) machine'
+              whole.numbers refl (λ n b at. absurd (none-some b (sym (map.get-empty nat_cmp n) ∙ at))));
+          run = λ actor it at. absurd (none-some it (sym (map.get-empty actor_cmp actor) ∙ at));
+          all = λ n b at. absurd (none-some b (sym (map.get-empty nat_cmp n) ∙ at));
           phase = (sym (length-take-le survived machine.log within), refl, refl);
         })
 
   -- what stands by the phase says nothing of the docket but of what runs
-  phase-docket : (docket : Docket) → docket.running ≡ book.docket.running → (phase : Phase) → PhaseStands phase book machine
+  phase-docket : (docket : Docket) → docket.running ≡ book.docket.running → (phase : Phase)
+      → PhaseStands phase book machine
       → PhaseStands phase (record book { docket = docket }) machine
   phase-docket docket same Up stands = stands
   phase-docket docket same Down stands =
@@ -123,8 +132,8 @@ module _ (book : Plain) (whole : Whole book) where
     }
 
   -- the machine started again
-  module _ (counts : Counts) (level : ℕ) (halted : book.tracker.phase ≡ Halted) (same_level : level ≡ book.tracker.level)
-      (few : length book.docket.commands < max_commands) where
+  module _ (counts : Counts) (level : ℕ) (halted : book.tracker.phase ≡ Halted)
+      (same_level : level ≡ book.tracker.level) (few : length book.docket.commands < max_commands) where
     abbrev entry : Entry
     entry = Restarted (book.tracker.boot + 1) level
 
@@ -139,7 +148,7 @@ module _ (book : Plain) (whole : Whole book) where
 
     no-runs : (actor : Actor) (it : Running) → map.get book.docket.running actor ≡ Some it → ⊥
     no-runs actor it at =
-        no_some it (sym (map.get-empty actor_cmp actor) ∙ ap (λ m. map.get m actor) (sym was_halted.2) ∙ at)
+        none-some it (sym (map.get-empty actor_cmp actor) ∙ ap (λ m. map.get m actor) (sym was_halted.2) ∙ at)
 
     no-began : (n : ℕ) (b : BeganCommand) → map.get machine.running n ≡ Some b → ⊥
     no-began n b at = none (map.get book.docket.running (actor_of b.command)) refl (whole.all n b at)
@@ -158,7 +167,8 @@ module _ (book : Plain) (whole : Whole book) where
     numbers-again : Numbers docket' (book.ledger.entries ++ entry ∷ []) machine_again
     numbers-again = record {
       accounted = subst (λ ns. Accounted actor_of ns docket') (sym quiet-numbers)
-          (accounted-same actor_of (numbers_begun book.ledger.entries) (with_first_command book.docket Boot Recover) docket'
+          (accounted-same actor_of (numbers_begun book.ledger.entries)
+          (with_first_command book.docket Boot Recover) docket'
           (accounted-given_first actor_total actor_exact actor_of book.docket (numbers_begun book.ledger.entries)
           whole.numbers.accounted Recover) refl refl);
       as_given = all_given-append (book.docket.commands ++ Recover ∷ []) book.ledger.entries entry
@@ -199,7 +209,8 @@ module _ (book : Plain) (whole : Whole book) where
 -- a Book as it is opened
 module _ (counts : Counts) (seed : List ℕ) (short : length seed ≤ 64) where
   abbrev opened : Plain
-  opened = new_book (record { disk = record { stable = map.empty; pending = [] }; counts = counts }) (opened_at counts) seed
+  opened =
+      new_book (record { disk = record { stable = map.empty; pending = [] }; counts = counts }) (opened_at counts) seed
 
   nothing-stands : StandsFor (rehearsal seed) map.empty (fold_changes [])
   nothing-stands = record {
@@ -208,7 +219,7 @@ module _ (counts : Counts) (seed : List ℕ) (short : length seed ≤ 64) where
   }
 
   none-on : (n : ℕ) (b : BeganCommand) → map.get first_machine.running n ≡ Some b → ⊥
-  none-on n b at = no_some b (sym (map.get-empty nat_cmp n) ∙ at)
+  none-on n b at = none-some b (sym (map.get-empty nat_cmp n) ∙ at)
 
   pub whole-opened : Whole opened
   whole-opened =
@@ -224,7 +235,7 @@ module _ (counts : Counts) (seed : List ℕ) (short : length seed ≤ 64) where
           boots = omega arith;
           few = omega arith;
         };
-        run = λ actor it at. absurd (no_some it (sym (map.get-empty actor_cmp actor) ∙ at));
+        run = λ actor it at. absurd (none-some it (sym (map.get-empty actor_cmp actor) ∙ at));
         all = λ n b at. absurd (none-on n b at);
         phase = λ place. ap is_some (map.get-empty {X = Unit {0}} place_cmp place)
             ∙ sym (ap is_some (map.get-empty {X = Files} place_cmp place));

@@ -1,11 +1,12 @@
 -- What a Book tracks follows the calls: which pending operations make a change, and how many changes are durable.
-use Rattle.std.proofs.Common.{◌≡◌, ℕ, ◌+◌, ◌<◌, ◌≤◌, get_or, Bool, true, false, cond, zero, suc, List, [], ◌∷◌, ◌++◌, length, take}
-use Rattle.std.proofs.Common.{refl, sym, ap, ◌∙◌, arith, length-append}
+use Rattle.std.proofs.Common.{◌≡◌, ℕ, ◌+◌, ◌<◌, ◌≤◌, get_or, Bool, true, false, cond, zero, suc, List, [], ◌∷◌, ◌++◌}
+use Rattle.std.proofs.Common.{length, take, refl, sym, ap, ◌∙◌, arith, length-append}
 use Rattle.std.specs.Prelude.{min, is_some, Ok}
 use Rattle.std.proofs.lemmas.List.{take_more}
 use Rattle.tree_model.specs.declared.ops.Op.{Op}
 use Rattle.tree_model.specs.declared.sites.LocalOp.{LocalOp}
-use Rattle.tree_model.specs.declared.sites.LocalOp.TheVariants.{MakeDir, Write, RenameFile, RenameDir, RemoveFile, RemoveDir}
+use Rattle.tree_model.specs.declared.sites.LocalOp.TheVariants.{MakeDir, Write, RenameFile}
+use Rattle.tree_model.specs.declared.sites.LocalOp.TheVariants.{RenameDir, RemoveFile, RemoveDir}
 use Rattle.tree_model.specs.Tree.{Tree, after_op, applied, kind_of, changes_in}
 use Rattle.tree_model.specs.Disk.{Disk, view}
 use Rattle.tree_model.specs.Sites.{op_of}
@@ -57,7 +58,8 @@ abbrev pub ChangeIsTold : Tree → Call → Bool → Type 0
 ChangeIsTold tree (OpCall user op) change = change ≡ is_some (kind_of tree (op_of user op))
 ChangeIsTold tree call change = Unit {0}
 
-module _ (disk disk' : Disk) (tracker : TrackerState) (is : tracker.pending ≡ changes_made disk.stable disk.pending) where
+module _ (disk disk' : Disk) (tracker : TrackerState)
+    (is : tracker.pending ≡ changes_made disk.stable disk.pending) where
   same_disk : disk' ≡ disk → tracker.pending ≡ changes_made disk'.stable disk'.pending
   same_disk same = is ∙ ap (λ d. changes_made d.stable d.pending) (sym same)
 
@@ -74,7 +76,8 @@ module _ (disk disk' : Disk) (tracker : TrackerState) (is : tracker.pending ≡ 
   failed-op user (RemoveDir site) failed change = same_disk failed
 
   -- the pending operations follow a call, whether the device did it or failed
-  pub pending-noted : (places places' : PlaceMap) (call : Call) (change made : Bool) → ChangeIsTold (view disk) call change
+  pub pending-noted : (places places' : PlaceMap) (call : Call) (change made : Bool)
+      → ChangeIsTold (view disk) call change
       → IsMade disk disk' places places' call (Ok made)
       → (noted made call change tracker).pending ≡ changes_made disk'.stable disk'.pending
   pending-noted places places' (OpCall user op) change true told done =
@@ -99,10 +102,13 @@ noted-stays true (OpCall user op) change tracker = record { phase = refl; boot =
 noted-stays true Sync change tracker = record { phase = refl; boot = refl; level = refl }
 noted-stays true ListCall change tracker = record { phase = refl; boot = refl; level = refl }
 noted-stays false (OpCall user (MakeDir site)) change tracker = record { phase = refl; boot = refl; level = refl }
-noted-stays false (OpCall user (Write site file bytes)) change tracker = record { phase = refl; boot = refl; level = refl }
-noted-stays false (OpCall user (RenameFile site from to)) change tracker = record { phase = refl; boot = refl; level = refl }
+noted-stays false
+    (OpCall user (Write site file bytes)) change tracker = record { phase = refl; boot = refl; level = refl }
+noted-stays false
+    (OpCall user (RenameFile site from to)) change tracker = record { phase = refl; boot = refl; level = refl }
 noted-stays false (OpCall user (RenameDir from to)) change tracker = record { phase = refl; boot = refl; level = refl }
-noted-stays false (OpCall user (RemoveFile site file)) change tracker = record { phase = refl; boot = refl; level = refl }
+noted-stays false
+    (OpCall user (RemoveFile site file)) change tracker = record { phase = refl; boot = refl; level = refl }
 noted-stays false (OpCall user (RemoveDir site)) change tracker = record { phase = refl; boot = refl; level = refl }
 noted-stays false Sync change tracker = record { phase = refl; boot = refl; level = refl }
 noted-stays false ListCall change tracker = record { phase = refl; boot = refl; level = refl }

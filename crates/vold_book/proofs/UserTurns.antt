@@ -1,5 +1,6 @@
 -- A call of a user's command that shows what it has to leaves the Book what it has to be left.
 use Rattle.std.proofs.Common.{◌≡◌, ◌≢◌, ℕ, inr, true, false, refl, sym, ap, ◌∙◌, subst}
+use Rattle.std.proofs.lemmas.Option.{none-some, same_Some}
 use Rattle.std.specs.Prelude.{Option, Some, None, is_some, IsSomeAnd, IfSome}
 use Rattle.std.specs.Cmp.{nat_cmp_total}
 use Rattle.std.specs.FinMap as map
@@ -18,7 +19,8 @@ use Rattle.journal_model.specs.declared.phase.Phase.{Phase}
 use Rattle.journal_model.specs.declared.phase.Phase.TheVariants.{Up, Down, Halted}
 use Rattle.journal_model.specs.Actor.{actor_cmp}
 use Rattle.journal_model.specs.Command.{actor_of}
-use Rattle.journal_model.specs.Machine.{Machine, Running as BeganCommand, after_entry, if_running, with_change, AllowsChange}
+use Rattle.journal_model.specs.Machine.{Machine, Running as BeganCommand, after_entry}
+use Rattle.journal_model.specs.Machine.{if_running, with_change, AllowsChange}
 use Rattle.user_world.specs.declared.changes.LocalChange.{LocalChange}
 use Rattle.user_world.specs.declared.turns.Call.{Call}
 use Rattle.user_world.specs.declared.turns.Call.TheVariants.{Op as OpCall, Sync, List as ListCall}
@@ -28,7 +30,7 @@ use Rattle.user_world.specs.Timelines.{Timeline, own_of, line_with, settled_line
 use Rattle.user_world.specs.Turns.{Rests, StepShows, CallShows}
 use Rattle.user_world.proofs.Facts.{later-facts}
 use Rattle.user_world.proofs.Timelines.{line-quiet, line-step, line-settled, own-synced}
-use Rattle.user_tasks.specs.Create.{scene_of}
+use Rattle.user_tasks.specs.Scenes.{scene_of}
 use Rattle.user_tasks.specs.Tasks.{UserTask, user_of, rest_of}
 use Rattle.key_directory.specs.Rehearsal.{rehearsal}
 use Rattle.vold_book.specs.declared.recovery.Recovery.{Recovery}
@@ -46,7 +48,7 @@ use Rattle.vold_book.specs.Turns.{Called}
 use Rattle.vold_book.specs.Whole.{PhaseStands, Whole}
 use Rattle.vold_book.proofs.StepsMade.{Keeps, same-line, step-fits, step-told, step-failed, all-changes}
 use Rattle.vold_book.proofs.Known.{known-view, known-failed}
-use Rattle.vold_book.proofs.Moves.{some_same, no_some, After, after_of, Moves}
+use Rattle.vold_book.proofs.Moves.{After, after_of, Moves}
 use Rattle.vold_book.proofs.Numbers.{IsQuiet, quiet-changed, quiet-synced}
 use Rattle.vold_book.proofs.Tracked.{ChangeIsTold, pending-noted, failed-durable, noted-stays}
 
@@ -85,7 +87,7 @@ module _ (book : Plain) (actor : Actor) (number : ℕ) (task : UserTask) (whole 
       by Up stands = refl
       by Down stands = absurd (not_boot user (sym (stands.1 actor _ runs) ∙ own_actor))
       by Halted stands =
-          absurd (no_some _ (sym (map.get-empty actor_cmp actor) ∙ ap (λ m. map.get m actor) (sym stands.2) ∙ runs))
+          absurd (none-some _ (sym (map.get-empty actor_cmp actor) ∙ ap (λ m. map.get m actor) (sym stands.2) ∙ runs))
 
   up-not-down : machine.phase ≡ Down → ⊥
   up-not-down down = differ (sym user-up ∙ sym whole.agrees.phase ∙ down)
@@ -121,7 +123,8 @@ module _ (book : Plain) (actor : Actor) (number : ℕ) (task : UserTask) (whole 
   pub record Leads (then : UserTask) (began : BeganCommand) (after : After) : Type 0 where
     pub line : Timeline
     pub is_line : timeline after.tree.disk (machine_with book.ledger.entries machine after.entry) ≡ line
-    pub leads : LeadsTo (rehearsal book.seed) user (rest_of book.seed then).facts (timeline book.tree.disk machine) line
+    pub leads : LeadsTo (rehearsal book.seed) user (rest_of book.seed then).facts
+        (timeline book.tree.disk machine) line
     pub boot : (machine_with book.ledger.entries machine after.entry).boot ≡ machine.boot
     pub at : map.get (machine_with book.ledger.entries machine after.entry).running number ≡ Some began
     pub on_machine : (n : ℕ) → n ≢ number
@@ -142,7 +145,8 @@ module _ (book : Plain) (actor : Actor) (number : ℕ) (task : UserTask) (whole 
   leads-move then began after left =
       let m = machine_with book.ledger.entries machine after.entry in
       let line' = timeline after.tree.disk m in
-      let leads = subst (LeadsTo (rehearsal book.seed) user (rest_of book.seed then).facts line) (sym left.is_line) left.leads in
+      let leads = subst (LeadsTo (rehearsal book.seed) user (rest_of book.seed then).facts line)
+      (sym left.is_line) left.leads in
       let ground = ground_at book.seed after.tree.disk m after.places in record {
         may = left.may;
         quiet = left.quiet;
@@ -157,11 +161,12 @@ module _ (book : Plain) (actor : Actor) (number : ℕ) (task : UserTask) (whole 
             of_user = ap actor_of left.command ∙ on.stands.of_user ∙ ap User (sym left.same_user);
             accepted = left.verdict ∙ on.stands.accepted;
             serves = subst (λ b. (rest_of book.seed then).serves b began) (sym left.boot) left.serves;
-            facts = subst (λ u. AllHold (rest_of book.seed then).facts (own_of u line')) (sym left.same_user) leads.rests;
+            facts =
+                subst (λ u. AllHold (rest_of book.seed then).facts (own_of u line')) (sym left.same_user) leads.rests;
           });
         };
         on_machine = left.on_machine;
-        same_command = λ b at. left.command ∙ ap (λ c. c.command) (some_same on.began b (sym on.at ∙ at));
+        same_command = λ b at. left.command ∙ ap (λ c. c.command) (same_Some on.began b (sym on.at ∙ at));
         others = others-stand ground refl left.boot leads.others;
         phase = left.phase;
         up = λ is. left.known;
@@ -170,7 +175,8 @@ module _ (book : Plain) (actor : Actor) (number : ℕ) (task : UserTask) (whole 
 
   -- what it shows of a call
   abbrev Shown : UserTask → Call → Option LocalChange → Type 0
-  Shown then call change = CallShows (scene_of book.seed machine.boot on.began (own_of user line)) (rest_of book.seed task)
+  Shown then call change =
+      CallShows (scene_of book.seed machine.boot on.began (own_of user line)) (rest_of book.seed task)
       call change (rest_of book.seed then)
 
   -- what a made call left
@@ -179,7 +185,8 @@ module _ (book : Plain) (actor : Actor) (number : ℕ) (task : UserTask) (whole 
 
   abbrev operated : Counts → LocalOp → Called Device
   operated counts op =
-      made_by (record { disk = with_op book.tree.disk (op_of user op); counts = counts }) (places_after book.places user op)
+      made_by (record { disk = with_op book.tree.disk (op_of user op); counts = counts })
+      (places_after book.places user op)
 
   -- an operation with no change that the device did
   quiet-leads : (counts : Counts) (then : UserTask) (op : LocalOp) → Shown then (OpCall user op) None
@@ -203,7 +210,8 @@ module _ (book : Plain) (actor : Actor) (number : ℕ) (task : UserTask) (whole 
       boot = whole.agrees.boot;
       level = whole.agrees.level;
       durable = whole.agrees.durable;
-      pending = pending-noted book.tree.disk _ book.tracker whole.agrees.pending book.places _ (OpCall user op) false true
+      pending =
+          pending-noted book.tree.disk _ book.tracker whole.agrees.pending book.places _ (OpCall user op) false true
           (step-told book.seed user line None _ whole.worlds op shows.stands.1) (refl, refl);
     };
     phase = refl;
@@ -219,8 +227,9 @@ module _ (book : Plain) (actor : Actor) (number : ℕ) (task : UserTask) (whole 
   change-leads counts then op local shows = record {
     line = line_with line user (record { op = op; note = Some local });
     is_line = refl;
-    leads = line-step (rehearsal book.seed) line user (record { op = op; note = Some local }) (rest_of book.seed then).facts
-        whole.worlds shows.stands.1;
+    leads =
+        line-step (rehearsal book.seed) line user (record { op = op; note = Some local })
+        (rest_of book.seed then).facts whole.worlds shows.stands.1;
     boot = refl;
     at = ap (λ m. map.get m number) on_machine
         ∙ get-insert_same nat_cmp_total nat_cmp-IsAntisymmetric machine.running number _;
@@ -240,7 +249,8 @@ module _ (book : Plain) (actor : Actor) (number : ℕ) (task : UserTask) (whole 
       boot = whole.agrees.boot;
       level = whole.agrees.level;
       durable = whole.agrees.durable;
-      pending = pending-noted book.tree.disk _ book.tracker whole.agrees.pending book.places _ (OpCall user op) true true
+      pending =
+          pending-noted book.tree.disk _ book.tracker whole.agrees.pending book.places _ (OpCall user op) true true
           (step-told book.seed user line (Some local) _ whole.worlds op shows.stands.1) (refl, refl);
     };
     phase = refl;
@@ -253,7 +263,9 @@ module _ (book : Plain) (actor : Actor) (number : ℕ) (task : UserTask) (whole 
 
       on_machine : (after_entry book.ledger.entries machine (Changed number change)).running
           ≡ map.insert machine.running number (with_change on.began change)
-      on_machine = ap (λ found. if_running found machine.running (λ r. map.insert machine.running number (with_change r change))) on.at
+      on_machine =
+          ap (λ found. if_running found machine.running
+          (λ r. map.insert machine.running number (with_change r change))) on.at
 
   -- a sync
   sync-leads : (counts : Counts) (then : UserTask) → Shown then Sync None
@@ -264,7 +276,9 @@ module _ (book : Plain) (actor : Actor) (number : ℕ) (task : UserTask) (whole 
     is_line = refl;
     leads = record {
       stands = line-settled (rehearsal book.seed) line whole.worlds;
-      rests = subst (AllHold (rest_of book.seed then).facts) (sym (own-synced (rehearsal book.seed) line user whole.worlds))
+      rests =
+          subst (AllHold (rest_of book.seed then).facts)
+          (sym (own-synced (rehearsal book.seed) line user whole.worlds))
           shows.stands.1;
       others = λ other differ. inr (own-synced (rehearsal book.seed) line other whole.worlds);
     };
@@ -342,7 +356,7 @@ module _ (book : Plain) (actor : Actor) (number : ℕ) (task : UserTask) (whole 
         boot = refl;
         mine = record { began = on.began; at = on.at; own = on.own; stands = on.stands.accepted };
         on_machine = λ n differ. refl;
-        same_command = λ b at. ap (λ c. c.command) (some_same on.began b (sym on.at ∙ at));
+        same_command = λ b at. ap (λ c. c.command) (same_Some on.began b (sym on.at ∙ at));
         others = others-stand ground refl refl keeps.others;
         phase = stays.phase;
         up = λ is. failed-known call change shows failed;
@@ -353,8 +367,8 @@ module _ (book : Plain) (actor : Actor) (number : ℕ) (task : UserTask) (whole 
           → ChangeIsTold (view book.tree.disk) call (is_some change)
       told (OpCall owner op) change shows =
           subst (λ u. StepShows (rehearsal book.seed) user (own_of user line) (record { op = op; note = change })
-          (rest_of book.seed then).facts → ChangeIsTold (view book.tree.disk) (OpCall u op) (is_some change)) (sym shows.stands.0)
-          (step-told book.seed user line change _ whole.worlds op) shows.stands.1
+          (rest_of book.seed then).facts → ChangeIsTold (view book.tree.disk) (OpCall u op) (is_some change))
+          (sym shows.stands.0) (step-told book.seed user line change _ whole.worlds op) shows.stands.1
       told Sync change shows = tt
       told ListCall change shows = tt
 

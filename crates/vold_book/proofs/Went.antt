@@ -1,5 +1,6 @@
 -- What a turn that goes did: one call or one reply, for an actor that has something to do, with fewer turns left.
 use Rattle.std.proofs.Common.{◌≡◌, ◌≢◌, ◌<◌, inl, inr, Bool, true, false, refl, sym, ap, ◌∙◌, subst, arith}
+use Rattle.std.proofs.lemmas.Option.{none-some}
 use Rattle.std.specs.Prelude.{◌↔◌, Option, Some, None, is_some, IsNone}
 use Rattle.std.specs.FinMap as map
 use Rattle.tree_model.specs.Disk.{Disk, view}
@@ -20,13 +21,13 @@ use Rattle.vold_book.specs.Calls.{entry_of}
 use Rattle.vold_book.specs.Parts.{TrackerState, noted}
 use Rattle.vold_book.specs.State.{BookState, Plain, Device, seen, machine_of, ground_of}
 use Rattle.vold_book.specs.Steps.{CallsOn, RepliesOn, GoesOn}
-use Rattle.vold_book.specs.Turns.{Begins, facts_in, Called, task_after, made_entry, after_call, CallsOnce, RepliesOnce, Goes, LeavesOthers}
+use Rattle.vold_book.specs.Turns.{Begins, facts_in, Called, task_after, made_entry, after_call, CallsOnce}
+use Rattle.vold_book.specs.Turns.{RepliesOnce, Goes, LeavesOthers}
 use Rattle.vold_book.specs.Whole.{PhaseStands, Whole, IsWhole, turns_left}
 use Rattle.vold_book.proofs.Books.{plan-fits}
 use Rattle.vold_book.proofs.Charged.{noted-entry}
 use Rattle.vold_book.proofs.Falls.{begun-falls, called-falls, replied-falls}
 use Rattle.vold_book.proofs.Isolated.{same-tree, call-isolates}
-use Rattle.vold_book.proofs.Moves.{no_some}
 use Rattle.vold_book.proofs.Shown.{call-falls, reply-told, reply-lasts}
 use Rattle.vold_book.proofs.Tracked.{noted-stays}
 
@@ -39,7 +40,7 @@ runs-takes book actor it whole runs = by book.tracker.phase whole.phase
     by Up stands = tt
     by Down stands = stands.1 actor it runs
     by Halted stands =
-        absurd (no_some it (sym (map.get-empty actor_cmp actor) ∙ ap (λ m. map.get m actor) (sym stands.2) ∙ runs))
+        absurd (none-some it (sym (map.get-empty actor_cmp actor) ∙ ap (λ m. map.get m actor) (sym stands.2) ∙ runs))
 
 -- a call tracks what is durable and what is pending, and nothing else
 tracked : (made : Bool) (call : Call) (change : Bool) (tracker : TrackerState) → noted made call change tracker
@@ -73,7 +74,8 @@ module _ {D : Type 0} (disk : D → Disk) (counts : D → Counts) (before after 
         let call = calls.call in
         let called = calls.makes.called in
         let entry = made_entry called.made (entry_of it.number call calls.change) in
-        let shows = call-falls (ground_of plain) calls.plans.on.began call calls.change it.task calls.then calls.plans.shows in
+        let shows = call-falls
+        (ground_of plain) calls.plans.on.began call calls.change it.task calls.then calls.plans.shows in
         subst (λ b. CallsOnce counts before b actor) (sym calls.makes.state) (record {
           it = it;
           made = called.made;
@@ -84,7 +86,8 @@ module _ {D : Type 0} (disk : D → Disk) (counts : D → Counts) (before after 
           noted = noted-entry called.made it.number call calls.change;
           quiet = no_entry called.made (entry_of it.number call calls.change);
           fault = fault-iff called.made calls.then shows.no_fault;
-          state = ap (λ t. record (after_call before actor it.number call calls.change calls.then called) { tracker = t })
+          state =
+              ap (λ t. record (after_call before actor it.number call calls.change calls.then called) { tracker = t })
               (tracked called.made call (is_some calls.change) before.tracker);
         })
 
@@ -95,7 +98,9 @@ module _ {D : Type 0} (disk : D → Disk) (counts : D → Counts) (before after 
       reply = replies.reply;
       runs = replies.plans.runs;
       given = replies.replies.given;
-      told = reply-told (ground_of plain) replies.plans.on.began replies.reply it.task replies.plans.on.stands replies.plans.shows;
+      told =
+          reply-told (ground_of plain) replies.plans.on.began replies.reply it.task replies.plans.on.stands
+          replies.plans.shows;
       state = replies.replies.state;
     }
 
@@ -119,7 +124,8 @@ module _ {D : Type 0} (disk : D → Disk) (counts : D → Counts) (before after 
         let called = calls.makes.called in
         subst (λ t. SameFor user (view (disk before.tree)) (view (disk t))) (sym (ap (λ b. b.tree) calls.makes.state))
         (call-isolates plain actor owner user own differ it calls.call calls.change calls.then
-        (record { disk = disk called.tree; counts = counts called.tree }) called.places called.made calls.plans calls.makes.is_made)
+        (record { disk = disk called.tree; counts = counts called.tree }) called.places called.made
+        calls.plans calls.makes.is_made)
     goes-isolates (inr replies) owner user own differ =
         same-tree user (view (disk before.tree)) (view (disk after.tree))
         (ap (λ b. view (disk b.tree)) replies.replies.state)
@@ -131,9 +137,11 @@ module _ {D : Type 0} (disk : D → Disk) (counts : D → Counts) (before after 
           places = calls.makes.called.places;
           made = calls.makes.called.made;
         } in
-        let shows = call-falls (ground_of plain) calls.plans.on.began calls.call calls.change it.task calls.then calls.plans.shows in
+        let shows = call-falls
+        (ground_of plain) calls.plans.on.began calls.call calls.change it.task calls.then calls.plans.shows in
         let fewer = called-falls plain actor it calls.plans.runs calls.call calls.then called shows
-        (plan-fits disk counts before whole actor it calls.call calls.change calls.then calls.plans) calls.makes.is_made in
+        (plan-fits disk counts before whole actor it calls.call calls.change calls.then calls.plans)
+        calls.makes.is_made in
         subst (λ b. turns_left disk b < turns_left disk before) (sym calls.makes.state) (omega (arith, fewer))
     goes-falls (inr replies) =
         let fewer = replied-falls plain actor it replies.plans.runs

@@ -67,7 +67,8 @@ count_changes (change ∷ changes) = cond change 1 0 + count_changes changes
 -- after a call that the device did: its operation is pending, or all is durable
 abbrev pub noted_made : Call → Bool → TrackerState → TrackerState
 noted_made (OpCall user op) change tracker = record tracker { pending = tracker.pending ++ change ∷ [] }
-noted_made Sync change tracker = record tracker { durable = tracker.durable + count_changes tracker.pending; pending = [] }
+noted_made Sync change tracker =
+    record tracker { durable = tracker.durable + count_changes tracker.pending; pending = [] }
 noted_made ListCall change tracker = tracker
 
 -- after one that it didn't: a failed write is pending too, with other bytes

@@ -1,5 +1,5 @@
--- The places of the view, as they are known without a call: how they follow operations, and what of them is in the way of
--- a create or left half made.
+-- The places of the view, as they are known without a call: how they follow operations, and what of them is in the
+-- way of a create or left half made.
 use Rattle.std.specs.Prelude.{◌≡◌, ℕ, Option, Some, None, is_some, IsSome}
 use Rattle.std.specs.declared.cmp.Ordering.TheVariants.{Less}
 use Rattle.std.specs.FinMap as map
@@ -23,7 +23,8 @@ KnowsPlaces places tree = (place : Place) → is_some (map.get places place) ≡
 -- the places after an operation on a user's
 abbrev pub places_after : PlaceMap → ℕ → LocalOp → PlaceMap
 places_after places user (MakeDir site) = map.insert places (place_of user site) tt
-places_after places user (RenameDir from to) = map.insert (map.remove places (place_of user from)) (place_of user to) tt
+places_after places user (RenameDir from to) =
+    map.insert (map.remove places (place_of user from)) (place_of user to) tt
 places_after places user (RemoveDir site) = map.remove places (place_of user site)
 places_after places user op = places
 

@@ -1,5 +1,5 @@
--- What tasks rest on of a whole Book, and a recovery as a task: it rests on the known places, and shows of each turn that
--- every user's own world is kept.
+-- What tasks rest on of a whole Book, and a recovery as a task: it rests on the known places, and shows of each turn
+-- that every user's own world is kept.
 use Rattle.std.specs.Prelude.{◌≡◌, ℕ, ◌+◌, ◌<◌, Bool, true, false, not, List, [], ◌∷◌, None}
 use Rattle.tree_model.specs.declared.ops.Op.{Op as DiskOp}
 use Rattle.tree_model.specs.declared.sites.LocalOp.{LocalOp}

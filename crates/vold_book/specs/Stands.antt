@@ -32,7 +32,8 @@ abbrev pub stands_in : List Entry → ℕ → Standing
 stands_in entries number = stands_from Queued number entries
 
 abbrev pub standing_of : {D : Type 0} → BookState D → ℕ → Standing
-standing_of book number = cond (nat_lt number (length book.docket.commands)) (stands_in book.ledger.entries number) Unknown
+standing_of book number =
+    cond (nat_lt number (length book.docket.commands)) (stands_in book.ledger.entries number) Unknown
 
 -- only the device was looked at, which leaves its disk
 pub record IsLooked {D : Type 0} (disk : D → Disk) (before after : BookState D) : Type 0 where

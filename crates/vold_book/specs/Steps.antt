@@ -41,13 +41,15 @@ as_recovery (CallNext call change then) = CallNext call change (Recovers then)
 as_recovery (ReplyNext reply) = ReplyNext reply
 
 -- the reply was given to the actor's command
-pub record RepliesTo {D : Type 0} (before after : BookState D) (actor : Actor) (it : Running) (reply : Reply) : Type 0 where
+pub record RepliesTo {D : Type 0} (before after : BookState D) (actor : Actor) (it : Running)
+    (reply : Reply) : Type 0 where
   pub command : Command
   pub given : slice_get before.docket.commands it.number ≡ Some command
   pub state : after ≡ after_reply before actor it.number command reply
 
 -- the call that was planned was made
-pub record CallsOn {D : Type 0} (disk : D → Disk) (counts : D → Counts) (before after : BookState D) (actor : Actor) (it : Running) : Type 0 where
+pub record CallsOn {D : Type 0} (disk : D → Disk) (counts : D → Counts) (before after : BookState D) (actor : Actor)
+    (it : Running) : Type 0 where
   pub call : Call
   pub change : Option LocalChange
   pub then : Task
@@ -55,7 +57,8 @@ pub record CallsOn {D : Type 0} (disk : D → Disk) (counts : D → Counts) (bef
   pub makes : Makes disk counts before after actor it.number call change then
 
 -- and the reply that was planned was given
-pub record RepliesOn {D : Type 0} (disk : D → Disk) (counts : D → Counts) (before after : BookState D) (actor : Actor) (it : Running) : Type 0 where
+pub record RepliesOn {D : Type 0} (disk : D → Disk) (counts : D → Counts) (before after : BookState D) (actor : Actor)
+    (it : Running) : Type 0 where
   pub reply : Reply
   pub plans : Plans (seen disk counts before) actor it (ReplyNext reply)
   pub replies : RepliesTo before after actor it reply

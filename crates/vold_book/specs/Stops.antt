@@ -25,9 +25,10 @@ after_stop book tree cut kept = record book {
   tracker = record book.tracker { phase = Halted; durable = kept; pending = [] };
 }
 
--- a stop keeps exactly the operations of its cut, with its fills, and its entry has the number of changes that survive: the
--- durable ones, and those among the first pending operations that it keeps
-pub record IsStopped {D : Type 0} (disk : D → Disk) (counts : D → Counts) (before after : BookState D) (cut : Cut) : Type 0 where
+-- a stop keeps exactly the operations of its cut, with its fills, and its entry has the number of changes that
+-- survive: the durable ones, and those among the first pending operations that it keeps
+pub record IsStopped {D : Type 0} (disk : D → Disk) (counts : D → Counts) (before after : BookState D)
+    (cut : Cut) : Type 0 where
   pub left : disk after.tree ≡ stopped (disk before.tree) cut.keep cut.fills
   pub same_counts : counts after.tree ≡ counts before.tree
   pub state : after
@@ -45,7 +46,8 @@ after_restart book tree level = record book {
 }
 
 -- a restart leaves the disk
-pub record IsRestarted {D : Type 0} (disk : D → Disk) (counts : D → Counts) (before after : BookState D) (level : ℕ) : Type 0 where
+pub record IsRestarted {D : Type 0} (disk : D → Disk) (counts : D → Counts) (before after : BookState D)
+    (level : ℕ) : Type 0 where
   pub same_disk : disk after.tree ≡ disk before.tree
   pub same_counts : counts after.tree ≡ counts before.tree
   pub state : after ≡ after_restart before after.tree level

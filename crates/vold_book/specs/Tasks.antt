@@ -11,7 +11,7 @@ use Rattle.user_world.specs.declared.turns.Next.TheVariants.{Call as CallNext, R
 use Rattle.user_world.specs.Timelines.{own_of}
 use Rattle.user_world.specs.Turns.{Rests, CallShows, ReplyShows}
 use Rattle.user_tasks.specs.Tasks.{user_of, rest_of}
-use Rattle.user_tasks.specs.Create.{scene_of}
+use Rattle.user_tasks.specs.Scenes.{scene_of}
 use Rattle.vold_book.specs.declared.tasks.Running.{Running}
 use Rattle.vold_book.specs.declared.tasks.Task.{Task}
 use Rattle.vold_book.specs.declared.tasks.Task.TheVariants.{User, Recovery, Refusal, Fault}
@@ -23,8 +23,8 @@ pub record IsRecovering (began : Began) : Type 0 where
   pub command : began.command ≡ Recover
   pub verdict : began.verdict ≡ None
 
--- where a command stands: a user's rests on facts of the user's world, a recovery on the known places; a refusal that is due
--- is the verdict of the machine, and only a command that wasn't refused is told of a fault
+-- where a command stands: a user's rests on facts of the user's world, a recovery on the known places; a refusal that
+-- is due is the verdict of the machine, and only a command that wasn't refused is told of a fault
 abbrev pub TaskStands : Ground → Task → Began → Type 0
 TaskStands ground (User task) began =
     Rests (rest_of ground.seed task) ground.boot began (own_of (user_of task) ground.line)
@@ -42,10 +42,12 @@ pub record RunsOn (ground : Ground) (machine : Machine) (actor : Actor) (it : Ru
 -- what a task shows of its next turn: the task after a call is of the same kind, a refusal and a fault are told
 abbrev pub TaskShows : Ground → Began → Task → Next Task → Type 0
 TaskShows ground began (User task) (CallNext call change (User then)) =
-    CallShows (scene_of ground.seed ground.boot began (own_of (user_of task) ground.line)) (rest_of ground.seed task) call change
+    CallShows (scene_of ground.seed ground.boot began (own_of (user_of task) ground.line))
+    (rest_of ground.seed task) call change
     (rest_of ground.seed then)
 TaskShows ground began (User task) (ReplyNext reply) =
-    ReplyShows (scene_of ground.seed ground.boot began (own_of (user_of task) ground.line)) (rest_of ground.seed task) reply
+    ReplyShows (scene_of ground.seed ground.boot began (own_of (user_of task) ground.line))
+    (rest_of ground.seed task) reply
 TaskShows ground began (Recovery recovery) (CallNext call change (Recovery then)) =
     RecoveryShows ground recovery (CallNext call change then)
 TaskShows ground began (Recovery recovery) (ReplyNext reply) = RecoveryShows ground recovery (ReplyNext reply)

@@ -1,6 +1,6 @@
 -- What a turn leaves of a Book: it begins a command, or makes one call of the device, or gives one reply.
-use Rattle.std.specs.Prelude.{◌≡◌, ◌≢◌, ℕ, ◌<◌, ◌⊎◌, ◌↔◌, Bool, true, false, List, [], ◌∷◌, ◌++◌, length, Option, Some, None}
-use Rattle.std.specs.Prelude.{is_some, IsNone, Result, Ok, Err, slice_get}
+use Rattle.std.specs.Prelude.{◌≡◌, ◌≢◌, ℕ, ◌<◌, ◌⊎◌, ◌↔◌, Bool, true, false, List, [], ◌∷◌, ◌++◌, length, Option}
+use Rattle.std.specs.Prelude.{Some, None, is_some, IsNone, Result, Ok, Err, slice_get}
 use Rattle.std.specs.FinMap as map
 use Rattle.tree_model.specs.declared.places.Place.TheVariants.{De}
 use Rattle.tree_model.specs.Disk.{Disk, view}
@@ -76,7 +76,8 @@ facts_in book command = record { present = user_there book.places (user_in comma
 
 -- what a command does first that isn't refused: what a user's task begins with, or what a recovery does
 abbrev pub AcceptedTask : Command → Birth → Option ℕ → Task → Type 0
-AcceptedTask command birth (Some user) task = (first : UserTask) × (task ≡ Using first) × TaskBegins command birth first
+AcceptedTask command birth (Some user) task =
+    (first : UserTask) × (task ≡ Using first) × TaskBegins command birth first
 AcceptedTask command birth None task = task ≡ Recovery Listing
 
 -- what it does first: its refusal where one is due
@@ -116,13 +117,15 @@ abbrev pub made_entry : Bool → Option Entry → Option Entry
 made_entry true entry = entry
 made_entry false entry = None
 
--- the Book once an actor's task made its call, and the device did it or failed; `tree` and `places` are what the call left
+-- the Book once an actor's task made its call, and the device did it or failed; `tree` and `places` are what the call
+-- left
 pub record Called (D : Type 0) : Type 0 where
   pub tree : D
   pub places : PlaceMap
   pub made : Bool
 
-abbrev pub after_call : {D : Type 0} → BookState D → Actor → ℕ → Call → Option LocalChange → Task → Called D → BookState D
+abbrev pub after_call : {D : Type 0} → BookState D → Actor → ℕ → Call → Option LocalChange
+    → Task → Called D → BookState D
 after_call book actor number call change then called = record book {
   tree = called.tree;
   ledger = ledger_with book.ledger actor (made_entry called.made (entry_of number call change));
@@ -134,7 +137,8 @@ after_call book actor number call change then called = record book {
 }
 
 -- the call was made and counted, and noted as it went
-pub record Makes {D : Type 0} (disk : D → Disk) (counts : D → Counts) (before after : BookState D) (actor : Actor) (number : ℕ) (call : Call) (change : Option LocalChange) (then : Task) : Type 0 where
+pub record Makes {D : Type 0} (disk : D → Disk) (counts : D → Counts) (before after : BookState D) (actor : Actor)
+    (number : ℕ) (call : Call) (change : Option LocalChange) (then : Task) : Type 0 where
   pub called : Called D
   pub is_made : IsMade (disk before.tree) (disk called.tree) before.places called.places call (Ok called.made)
   pub counted : IsCounted (counts before.tree) (counts called.tree) (as_answer (Ok called.made))
@@ -145,7 +149,8 @@ abbrev pub IsNoted : ℕ → Option Entry → Type 0
 IsNoted number None = Unit {0}
 IsNoted number (Some entry) = (entry ≡ Synced) ⊎ ((change : Change) × (entry ≡ Changed number change))
 
--- a turn that makes one call, counted, with at most one entry; that the device failed is told next exactly where it did
+-- a turn that makes one call, counted, with at most one entry; that the device failed is told next exactly where it
+-- did
 pub record CallsOnce {D : Type 0} (counts : D → Counts) (before after : BookState D) (actor : Actor) : Type 0 where
   pub it : Running
   pub made : Bool

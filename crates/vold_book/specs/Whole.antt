@@ -1,7 +1,8 @@
--- When a Book is whole: its journal is legal, what it tracks agrees with the machine and the disk, every tree that a stop can
--- leave stands for a prefix of the changes, no number is lost, each running command stands where its task says, and replies
--- that tell of a failure are charged to failures of the device.
-use Rattle.std.specs.Prelude.{◌≡◌, ℕ, ◌+◌, ◌*◌, ◌-◌, ◌^◌, ◌≤◌, ◌⊎◌, List, [], ◌∷◌, length, Some, None, IsSomeAnd, Contains, slice_get, unwrap_or}
+-- When a Book is whole: its journal is legal, what it tracks agrees with the machine and the disk, every tree that a
+-- stop can leave stands for a prefix of the changes, no number is lost, each running command stands where its task
+-- says, and replies that tell of a failure are charged to failures of the device.
+use Rattle.std.specs.Prelude.{◌≡◌, ℕ, ◌+◌, ◌*◌, ◌-◌, ◌^◌, ◌≤◌, ◌⊎◌, List, [], ◌∷◌, length, Some, None, IsSomeAnd}
+use Rattle.std.specs.Prelude.{Contains, slice_get, unwrap_or}
 use Rattle.std.specs.FinMap as map
 use Rattle.tree_model.specs.Disk.{Disk, view}
 use Rattle.tree_model.specs.Counted.{Counts}
@@ -14,6 +15,7 @@ use Rattle.journal_model.specs.declared.entries.Entry.{Entry}
 use Rattle.journal_model.specs.declared.entries.Entry.TheVariants.{Began, Replied}
 use Rattle.journal_model.specs.declared.phase.Phase.{Phase}
 use Rattle.journal_model.specs.declared.phase.Phase.TheVariants.{Up, Down, Halted}
+use Rattle.journal_model.specs.Actor.{actor_cmp}
 use Rattle.journal_model.specs.Command.{actor_of}
 use Rattle.journal_model.specs.Machine.{Machine, Running as BeganCommand, IsLegal, IsDurable, begun_by, numbers_begun}
 use Rattle.sorted_map.specs.Sums.{total_by}
@@ -50,8 +52,8 @@ pub record WasGiven (docket : Docket) (entries : List Entry) (number : ℕ) (beg
   pub given : slice_get docket.commands number ≡ Some began.command
   pub begun : Contains (numbers_begun entries) number
 
--- the docket and the journal tell the same: no number is lost, each command that began is the one of its number, and the
--- counts of this boot are the journal's
+-- the docket and the journal tell the same: no number is lost, each command that began is the one of its number, and
+-- the counts of this boot are the journal's
 pub record Numbers (docket : Docket) (entries : List Entry) (machine : Machine) : Type 0 where
   pub accounted : Accounted actor_of (numbers_begun entries) docket
   pub as_given : AllAsGiven docket.commands entries
@@ -61,8 +63,13 @@ pub record Numbers (docket : Docket) (entries : List Entry) (machine : Machine) 
   pub boots : machine.boot ≤ length docket.commands
   pub few : length docket.commands ≤ max_commands
 
--- what stands by the phase: the known places are the view's; or every change is durable and nothing but a recovery runs; or
--- nothing runs, and nothing is pending
+-- each command on the machine is run by its actor
+abbrev pub AllRun : Machine → map.FinMap actor_cmp Running → Type 0
+AllRun machine running = (number : ℕ) (began : BeganCommand) → map.get machine.running number ≡ Some began
+    → IsSomeAnd (map.get running (actor_of began.command)) (λ it. it.number ≡ number)
+
+-- what stands by the phase: the known places are the view's; or every change is durable and nothing but a recovery
+-- runs; or nothing runs, and nothing is pending
 abbrev pub PhaseStands : Phase → Plain → Machine → Type 0
 PhaseStands Up book machine = KnowsPlaces book.places (view book.tree.disk)
 PhaseStands Down book machine = IsDurable machine None
@@ -86,8 +93,8 @@ due_in task = 0
 abbrev pub due_of : Running → ℕ
 due_of it = due_in it.task
 
--- the replies that told of a failure and those that are due are at most the failures since the Book was opened, while the
--- device can count them
+-- the replies that told of a failure and those that are due are at most the failures since the Book was opened, while
+-- the device can count them
 abbrev pub IsCharged : Plain → Type 0
 IsCharged book =
     (book.opened.faults + (total_by charge_in book.ledger.entries + total_by due_of (map.values book.docket.running))
@@ -106,8 +113,7 @@ pub record Whole (book : Plain) : Type 0 where
   -- each actor's command stands where its task says, and each command on the machine is run by its actor
   pub run : (actor : Actor) (it : Running) → map.get book.docket.running actor ≡ Some it
       → RunsOn (ground_of book) (machine_of book) actor it
-  pub all : (number : ℕ) (began : BeganCommand) → map.get (machine_of book).running number ≡ Some began
-      → IsSomeAnd (map.get book.docket.running (actor_of began.command)) (λ it. it.number ≡ number)
+  pub all : AllRun (machine_of book) book.docket.running
   pub phase : PhaseStands book.tracker.phase book (machine_of book)
   pub charged : IsCharged book
 

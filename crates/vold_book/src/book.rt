@@ -1,4 +1,5 @@
-ghost use Rattle.std.specs.Prelude.{◌≡◌, ◌≢◌, ◌↔◌, ◌<◌, ◌≤◌, [], Err, IsSome, IsNone, IsTrue, IfOk, OnOk, OnErr, length, slice_get, Some, None};
+ghost use Rattle.std.specs.Prelude.{◌≡◌, ◌≢◌, ◌↔◌, ◌<◌, ◌≤◌, [], Err, IsSome, IsNone, IsTrue, IfOk, OnOk, OnErr};
+ghost use Rattle.std.specs.Prelude.{length, slice_get, Some, None};
 ghost use Rattle.std.specs.FinMap as map;
 ghost use Rattle.journal_model.specs.Command.{user_in};
 ghost use Rattle.journal_model.specs.Machine.{TakesTurn};
@@ -14,8 +15,9 @@ ghost use Rattle.vold_book.specs.Calls.{entry_of};
 ghost use Rattle.vold_book.specs.Steps.{IsStep, as_recovery, as_user, GoesOn, RepliesTo};
 ghost use Rattle.vold_book.specs.Tasks.{Plans};
 ghost use Rattle.vold_book.specs.Stops.{IsStopped, IsRestarted};
-ghost use Rattle.vold_book.specs.Turns.{new_book, opened_at, with_command, IsEnqueued, facts_in, user_there, AcceptedTask, FirstTask};
-ghost use Rattle.vold_book.specs.Turns.{Begins, Makes, made_entry, task_after, Answers, LeavesOthers, Falls, ComesUp, IsSame};
+ghost use Rattle.vold_book.specs.Turns.{new_book, opened_at, with_command, IsEnqueued, facts_in, user_there};
+ghost use Rattle.vold_book.specs.Turns.{AcceptedTask, FirstTask, Begins, Makes, made_entry, task_after, Answers};
+ghost use Rattle.vold_book.specs.Turns.{LeavesOthers, Falls, ComesUp, IsSame};
 ghost use Rattle.vold_book.specs.Whole.{IsWhole, max_commands};
 
 use crate::calls;
@@ -41,8 +43,8 @@ use user_world::{Call, LocalChange, Next};
 /// The most commands that a Book numbers.
 pub const MAX_COMMANDS: usize = 65_536;
 
-/// The device, what was done on it, the actors with their queues and running commands, and what the journal says of the
-/// machine.
+/// The device, what was done on it, the actors with their queues and running commands, and what the journal says of
+/// the machine.
 #[derive(Drop)]
 pub struct Book<T: TreeDisk> {
     alloc: Global,
@@ -66,14 +68,33 @@ impl<T: TreeDisk> Model for Book<T> {
 
     ghost Value = { BookState T };
 
-    ghost coded = { Prim.hlevel (codes, T.code, map.code, actor_code, place_code, opened_type.the_row.coded, running_type.the_row.coded) };
+    ghost coded = { Prim.hlevel
+        (codes, T.code, map.code, actor_code, place_code, opened_type.the_row.coded, running_type.the_row.coded) };
 
     ghost use Rattle.vold_book.specs.State.{Parts, book_of};
     ghost use Rattle.vold_book.specs.Whole.{IsWhole};
 
-    ghost view = { λ book. book_of (record { tree = book.tree; opened = book.opened; seed = book.seed; ledger = book.ledger.now; docket = book.docket; tracker = book.tracker.now; places = book.places }) };
+    ghost view = { λ book. book_of
+        (record {
+          tree = book.tree;
+          opened = book.opened;
+          seed = book.seed;
+          ledger = book.ledger.now;
+          docket = book.docket;
+          tracker = book.tracker.now;
+          places = book.places;
+        }) };
 
-    ghost invariant = { λ book. IsWhole T.disk T.counts (book_of (record { tree = book.tree; opened = book.opened; seed = book.seed; ledger = book.ledger.now; docket = book.docket; tracker = book.tracker.now; places = book.places })) };
+    ghost invariant = { λ book. IsWhole T.disk T.counts
+        (book_of (record {
+          tree = book.tree;
+          opened = book.opened;
+          seed = book.seed;
+          ledger = book.ledger.now;
+          docket = book.docket;
+          tracker = book.tracker.now;
+          places = book.places;
+        })) };
 }
 
 impl<T: TreeDisk> Book<T> {
@@ -102,8 +123,8 @@ impl<T: TreeDisk> Book<T> {
         })
     }
 
-    /// Gives the command the next number, from 0; it waits last for its actor. Full exactly where every number is given
-    /// out. On a refusal the command is given up and nothing else changes.
+    /// Gives the command the next number, from 0; it waits last for its actor. Full exactly where every number is
+    /// given out. On a refusal the command is given up and nothing else changes.
     pub fn enqueue(&mut self, command: Command) -> Result<u64, EnqueueFault>
         ensures answer { IsEnqueued self.old self.new command result }
         ensures whole { IsWhole T.disk T.counts self.new }
@@ -431,8 +452,8 @@ impl<T: TreeDisk> Book<T> {
         (self.ledger.into_journal(), self.tree)
     }
 
-    /// The machine stops. Of the operations since the last sync the first `cut.keep` stay, each write with the bytes of its
-    /// fill; running commands are lost, queued ones stay.
+    /// The machine stops. Of the operations since the last sync the first `cut.keep` stay, each write with the bytes
+    /// of its fill; running commands are lost, queued ones stay.
     ///
     /// # Errors
     ///
@@ -453,9 +474,9 @@ impl<T: TreeDisk> Book<T> {
         Ok(())
     }
 
-    /// The stopped machine starts again, and a recovery is put first in the queue of its actor; its number is the answer.
-    /// The level is the one that the machine has. Full exactly where every number is given out. On a refusal nothing
-    /// changes.
+    /// The stopped machine starts again, and a recovery is put first in the queue of its actor; its number is the
+    /// answer. The level is the one that the machine has. Full exactly where every number is given out. On a refusal
+    /// nothing changes.
     pub fn restart(&mut self, level: u32) -> Result<u64, EnqueueFault>
         requires stopped { self.old.tracker.phase ≡ Halted }
         requires level { level ≡ self.old.tracker.level }

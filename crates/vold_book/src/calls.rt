@@ -39,7 +39,8 @@ pub fn make<T: TreeDisk>(
 ) -> Result<bool, NoMemory>
     requires fits { Fits (view (T.disk tree.old)) call.now }
     requires room { 0 < places.old.room }
-    ensures made { IsMade (T.disk tree.old) (T.disk tree.new) (held place_cmp places.old) (held place_cmp places.new) call.now result }
+    ensures made { IsMade (T.disk tree.old) (T.disk tree.new) (held place_cmp places.old)
+        (held place_cmp places.new) call.now result }
     ensures counted { IsCounted (T.counts tree.old) (T.counts tree.new) (as_answer result) }
 {
     match call {
@@ -76,7 +77,8 @@ fn operate<T: TreeDisk>(tree: &mut T, user: u32, op: &LocalOp) -> Result<bool, N
 
 /// Lists the places of the view, which are the known ones from then on, and tells whether the device did it.
 fn list<T: TreeDisk>(alloc: Global, tree: &mut T, places: &mut Places) -> Result<bool, NoMemory>
-    ensures made { IsMade (T.disk tree.old) (T.disk tree.new) (held place_cmp places.old) (held place_cmp places.new) Call.List result }
+    ensures made { IsMade (T.disk tree.old) (T.disk tree.new) (held place_cmp places.old)
+        (held place_cmp places.new) Call.List result }
     ensures counted { IsCounted (T.counts tree.old) (T.counts tree.new) (as_answer result) }
 {
     let values = vec![in alloc; (); tree.len() as usize]?;

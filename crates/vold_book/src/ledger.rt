@@ -21,7 +21,16 @@ impl Model for Ledger {
 
     ghost Value = { RoomyLedger };
 
-    ghost view = { λ ledger. record { now = record { entries = ledger.journal.entries; callers = ledger.callers.items; orders = ledger.orders.items }; room = min ledger.journal.room (min (vec_capacity ledger.callers - vec_len ledger.callers) (vec_capacity ledger.orders - vec_len ledger.orders)) } };
+    ghost view = { λ ledger. record {
+      now = record {
+        entries = ledger.journal.entries;
+        callers = ledger.callers.items;
+        orders = ledger.orders.items;
+      };
+      room = min ledger.journal.room
+          (min (vec_capacity ledger.callers - vec_len ledger.callers)
+          (vec_capacity ledger.orders - vec_len ledger.orders));
+    } };
 }
 
 impl Ledger {
@@ -59,7 +68,10 @@ impl Ledger {
     /// Adds an order and its entry last, in room that was promised.
     pub fn order(&mut self, order: Order, entry: Entry)
         requires { 0 < self.old.room }
-        ensures { self.new.now ≡ record self.old.now { entries = self.old.now.entries ++ entry ∷ []; orders = self.old.now.orders ++ order ∷ [] } }
+        ensures { self.new.now ≡ record self.old.now {
+          entries = self.old.now.entries ++ entry ∷ [];
+          orders = self.old.now.orders ++ order ∷ [];
+        } }
     {
         self.orders.push(order).unwrap();
         self.journal.push(entry);

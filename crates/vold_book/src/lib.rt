@@ -1,6 +1,6 @@
-//! A Book: the turns of commands over a tree device, each a beginning, one counted call, or a reply, with the journal of
-//! what was done. In every call's contract the surviving tree stands for what the journal says. Commands are tasks of the
-//! crates below; a Book knows of each what it has to show, and nothing else.
+//! A Book: the turns of commands over a tree device, each a beginning, one counted call, or a reply, with the journal
+//! of what was done. In every call's contract the surviving tree stands for what the journal says. Commands are tasks
+//! of the crates below; a Book knows of each what it has to show, and nothing else.
 #![tactic(auto)]
 
 pub mod book;
@@ -12,8 +12,6 @@ pub mod recovery;
 pub mod run_end;
 pub mod standings;
 pub mod tasks;
-#[cfg(test)]
-mod tests;
 pub mod tracker;
 pub mod turns;
 

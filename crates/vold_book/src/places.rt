@@ -71,8 +71,8 @@ pub fn follow(places: &mut Places, user: u32, op: &LocalOp)
     }
 }
 
-/// The first place that a recovery removes: the temporary ones, then those of credential keys whose users aren't there,
-/// each in order.
+/// The first place that a recovery removes: the temporary ones, then those of credential keys whose users aren't
+/// there, each in order.
 pub fn first_left(places: &Places) -> Option<Place>
     ensures { IsFirstLeft (held place_cmp places.now) result }
 {
@@ -84,7 +84,9 @@ pub fn first_left(places: &Places) -> Option<Place>
 
 /// The first temporary place.
 fn first_temporary(places: &Places) -> Option<Place>
-    ensures { MatchOption result (NoneLeft (held place_cmp places.now) IsTemporary) (λ place. IsTemporary place × IsSome (map.get (held place_cmp places.now) place) × NoneBelow (held place_cmp places.now) IsTemporary place) }
+    ensures { MatchOption result (NoneLeft (held place_cmp places.now) IsTemporary)
+        (λ place. IsTemporary place × IsSome (map.get (held place_cmp places.now) place)
+        × NoneBelow (held place_cmp places.now) IsTemporary place) }
 {
     for place in places.keys() {
         if is_temporary(*place) {
@@ -105,7 +107,9 @@ fn is_temporary(place: Place) -> bool
 
 /// The first place of a credential key whose user isn't there.
 fn first_debris(places: &Places) -> Option<Place>
-    ensures { MatchOption result (NoneLeft (held place_cmp places.now) (IsDebris (held place_cmp places.now))) (λ place. IsDebris (held place_cmp places.now) place × IsSome (map.get (held place_cmp places.now) place) × NoneBelow (held place_cmp places.now) (IsDebris (held place_cmp places.now)) place) }
+    ensures { MatchOption result (NoneLeft (held place_cmp places.now) (IsDebris (held place_cmp places.now)))
+        (λ place. IsDebris (held place_cmp places.now) place × IsSome (map.get (held place_cmp places.now) place)
+        × NoneBelow (held place_cmp places.now) (IsDebris (held place_cmp places.now)) place) }
 {
     for place in places.keys() {
         if is_debris(places, *place) {

@@ -26,7 +26,17 @@ impl Model for Tracker {
 
     ghost Value = { RoomyTracker };
 
-    ghost view = { λ tracker. record { now = record { phase = tracker.phase; boot = tracker.boot; level = tracker.level; durable = tracker.durable; pending = tracker.pending.items }; room = vec_capacity tracker.pending - vec_len tracker.pending } };
+    ghost view = { λ tracker.
+        record {
+          now = record {
+            phase = tracker.phase;
+            boot = tracker.boot;
+            level = tracker.level;
+            durable = tracker.durable;
+            pending = tracker.pending.items;
+          };
+          room = vec_capacity tracker.pending - vec_len tracker.pending;
+        } };
 }
 
 impl Tracker {
@@ -100,7 +110,8 @@ impl Tracker {
     /// How many changes survive a stop that keeps this number of the pending operations.
     pub fn survivors(&self, keep: u64) -> u64
         requires { self.now.now.durable + count_changes self.now.now.pending < 2 ^ 64 }
-        ensures { result ≡ self.now.now.durable + count_changes (take (min keep (length self.now.now.pending)) self.now.now.pending) }
+        ensures { result ≡ self.now.now.durable + count_changes
+            (take (min keep (length self.now.now.pending)) self.now.now.pending) }
     {
         let pending = self.pending.as_slice();
         let kept = (keep as usize).min(pending.len());

@@ -1,5 +1,6 @@
 -- The directories that a loop over a tree's places reads are the tree's entries.
-use Rattle.std.proofs.Common.{◌≡◌, ℕ, suc, ◌+◌, ◌<◌, ◌≤◌, List, [], ◌∷◌, ◌++◌, length, get_or, take, refl, sym, ap, subst, ◌∙◌, add-one, arith}
+use Rattle.std.proofs.Common.{◌≡◌, ℕ, suc, ◌+◌, ◌<◌, ◌≤◌, List, [], ◌∷◌, ◌++◌, length, get_or, take, refl, sym, ap}
+use Rattle.std.proofs.Common.{subst, ◌∙◌, add-one, arith}
 use Rattle.std.specs.Prelude.{Option, Some, None, IsSome}
 use Rattle.std.specs.FinMap as map
 use Rattle.std.proofs.lemmas.List.{length-map, take_all}
@@ -19,24 +20,32 @@ many : (tree : Tree) (places : List Place) → places ≡ map.keys tree → leng
 many tree places listed = ap length listed ∙ length-map (map.entries tree) (λ e. e.0)
 
 -- each place is there
-pub place_there : (tree : Tree) (places : List Place) (i : ℕ) (place : Place) → places ≡ map.keys tree → i < length places → IsSome (map.get tree (get_or places i place))
+pub place_there : (tree : Tree) (places : List Place) (i : ℕ) (place : Place) → places ≡ map.keys tree
+    → i < length places → IsSome (map.get tree (get_or places i place))
 place_there tree places i place listed within = there _ (key_found place_total tree places i place listed within)
 
 -- the look at a directory is among those that the tree needs
-pub look_wanted : (tree : Tree) (places : List Place) (i : ℕ) → places ≡ map.keys tree → i < length places → suc i < looks_for tree
+pub look_wanted : (tree : Tree) (places : List Place) (i : ℕ) → places ≡ map.keys tree
+    → i < length places → suc i < looks_for tree
 look_wanted tree places i listed within = let all = many tree places listed in omega arith
 
 -- one more directory is read
-pub dir_read : (tree : Tree) (places : List Place) (i : ℕ) (place : Place) (files : Files) (dirs dirs' : List (Place × Files)) → places ≡ map.keys tree → i < length places → map.get tree (get_or places i place) ≡ Some files
-    → dirs ≡ take i (map.entries tree) → dirs' ≡ dirs ++ (get_or places i place, files) ∷ [] → dirs' ≡ take (i + 1) (map.entries tree)
+pub dir_read : (tree : Tree) (places : List Place) (i : ℕ) (place : Place) (files : Files)
+    (dirs dirs' : List (Place × Files)) → places ≡ map.keys tree → i < length places
+    → map.get tree (get_or places i place) ≡ Some files
+    → dirs ≡ take i (map.entries tree) → dirs' ≡ dirs ++ (get_or places i place, files) ∷ []
+    → dirs' ≡ take (i + 1) (map.entries tree)
 dir_read tree places i place files dirs dirs' listed within found before added =
     let here : i < length (map.entries tree) = subst (λ n. i < n) (many tree places listed) within in
     added
     ∙ ap (λ ds. ds ++ (get_or places i place, files) ∷ []) before
-    ∙ ap (λ e. take i (map.entries tree) ++ e ∷ []) (entry-at place_total tree places i place files listed within (sym found))
+    ∙ ap (λ e. take i (map.entries tree) ++ e ∷ [])
+    (entry-at place_total tree places i place files listed within (sym found))
     ∙ sym (take-suc (map.entries tree) i (place, files) here)
     ∙ ap (λ n. take n (map.entries tree)) (sym (add-one i))
 
 -- every directory is read
-pub all_read : (tree : Tree) (places : List Place) (i : ℕ) (dirs : List (Place × Files)) → places ≡ map.keys tree → length places ≤ i → dirs ≡ take i (map.entries tree) → dirs ≡ map.entries tree
-all_read tree places i dirs listed past read = read ∙ take_all i (map.entries tree) (subst (λ n. n ≤ i) (many tree places listed) past)
+pub all_read : (tree : Tree) (places : List Place) (i : ℕ) (dirs : List (Place × Files)) → places ≡ map.keys tree
+    → length places ≤ i → dirs ≡ take i (map.entries tree) → dirs ≡ map.entries tree
+all_read tree places i dirs listed past read =
+    read ∙ take_all i (map.entries tree) (subst (λ n. n ≤ i) (many tree places listed) past)

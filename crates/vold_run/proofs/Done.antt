@@ -15,14 +15,19 @@ use Rattle.vold_run.specs.Lines.{commands_of, orders_of, AreLinesDone, EndsIdle,
 use Rattle.vold_run.specs.Shown.{Shows}
 use Rattle.vold_run.specs.Ends.{IsDone}
 
-pub shown_is_done : {D : Type 0} (disk : D → Disk) (counts : D → Counts) (start : BookState D) (lines : List Line) (worked book : BookState D) → IsFresh start lines → AreLinesDone disk counts None lines start worked → IsWhole disk counts book → IsLooked disk worked book
+pub shown_is_done : {D : Type 0} (disk : D → Disk) (counts : D → Counts) (start : BookState D) (lines : List Line)
+    (worked book : BookState D) → IsFresh start lines → AreLinesDone disk counts None lines start worked
+    → IsWhole disk counts book → IsLooked disk worked book
     → (text : List ℕ) → Shows disk counts worked book text → IsDone disk counts start lines book text
 shown_is_done disk counts start lines worked book fresh done whole looked text shown =
-    let commands : book.docket.commands ≡ commands_of lines = ap (λ b. b.docket.commands) looked.state ∙ done.commands ∙ ap (λ h. h.commands ++ commands_of lines) fresh.history in
+    let commands : book.docket.commands ≡ commands_of lines = ap (λ b. b.docket.commands) looked.state ∙ done.commands
+    ∙ ap (λ h. h.commands ++ commands_of lines) fresh.history in
     record {
       commands = commands;
       began = subst (λ given. AllAsGiven given book.ledger.entries) commands whole.numbers.as_given;
-      fits = subst (LinesFit lines nothing) (sym (ap history_of looked.state)) (subst (λ history. LinesFit lines history (history_of worked)) fresh.history done.fits);
+      fits =
+          subst (LinesFit lines nothing) (sym (ap history_of looked.state))
+          (subst (λ history. LinesFit lines history (history_of worked)) fresh.history done.fits);
       idle = subst (EndsIdle lines) (sym looked.state) done.idle;
       seed = ap (λ b. b.seed) looked.state ∙ done.seed ∙ fresh.seed;
       orders = ap (λ b. b.ledger.orders) looked.state ∙ done.orders ∙ ap (λ os. os ++ orders_of lines) fresh.orders;
@@ -33,9 +38,12 @@ shown_is_done disk counts start lines worked book fresh done whole looked text s
     }
 
 -- a Book as it is opened waits for its lines
-pub fresh-between : {D : Type 0} (disk : D → Disk) (counts : D → Counts) (book : BookState D) (lines : List Line) → IsWhole disk counts book → IsFresh book lines → IsBetweenLines disk counts book
+pub fresh-between : {D : Type 0} (disk : D → Disk) (counts : D → Counts) (book : BookState D) (lines : List Line)
+    → IsWhole disk counts book → IsFresh book lines → IsBetweenLines disk counts book
 fresh-between disk counts book lines whole fresh = record {
   whole = whole;
   level = ap (λ p. p.level) fresh.tracker;
-  order = λ actor. subst (λ found. IfSome found (IsInOrder actor)) (sym (ap (λ w. map.get w actor) fresh.waiting ∙ map.get-empty actor_cmp actor)) tt;
+  order =
+      λ actor. subst (λ found. IfSome found (IsInOrder actor))
+      (sym (ap (λ w. map.get w actor) fresh.waiting ∙ map.get-empty actor_cmp actor)) tt;
 }

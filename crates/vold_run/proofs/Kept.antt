@@ -6,14 +6,9 @@ use Rattle.tree_model.specs.Disk.{Disk}
 use Rattle.tree_model.specs.Counted.{Counts}
 use Rattle.tree_model.proofs.Maps.{get-insert_same, get-insert_other, get-remove_same, get-remove_other}
 use Rattle.journal_model.specs.declared.commands.Actor.{Actor}
-use Rattle.journal_model.specs.declared.commands.Reply.{Reply}
-use Rattle.journal_model.specs.declared.commands.Reply.TheVariants.{Done, Ended, UserExists, Ready, TreeFault}
-use Rattle.journal_model.specs.declared.commands.Command.{Command}
-use Rattle.journal_model.specs.declared.commands.Command.TheVariants.{Create, Recover}
 use Rattle.journal_model.specs.Actor.{actor_cmp, actor_total, actor_exact}
-use Rattle.journal_model.specs.Machine.{phase_after}
-use Rattle.journal_model.specs.declared.phase.Phase.{Phase}
 use Rattle.journal_model.specs.declared.phase.Phase.TheVariants.{Halted}
+use Rattle.journal_model.proofs.ByCommand.{never-stops}
 use Rattle.vold_book.specs.declared.turns.Turn.{Turn}
 use Rattle.vold_book.specs.declared.turns.Turn.TheVariants.{Went, Idle, Waits}
 use Rattle.vold_book.specs.State.{BookState}
@@ -24,14 +19,6 @@ use Rattle.docket.proofs.Accounts.{at_actors}
 use Rattle.vold_run.specs.Lines.{IsInOrder, IsBetweenLines, IsKept}
 use Rattle.vold_run.proofs.Counted.{answers-count, counts-joined, counts-same}
 
-reply-phase : (phase : Phase) (command : Command) (reply : Reply) → phase ≢ Halted → phase_after phase command reply ≢ Halted
-reply-phase phase (Create user) reply differ = differ
-reply-phase phase Recover Done differ = differ
-reply-phase phase Recover (Ended count) differ = λ e. cc
-reply-phase phase Recover UserExists differ = differ
-reply-phase phase Recover Ready differ = differ
-reply-phase phase Recover TreeFault differ = differ
-
 abbrev Waiting : Type 0
 Waiting = map.FinMap actor_cmp (List ℕ)
 
@@ -40,21 +27,32 @@ abbrev pub AreInOrder : Waiting → Type 0
 AreInOrder waiting = (actor : Actor) → IfSome (map.get waiting actor) (IsInOrder actor)
 
 -- a queue whose first number began is still in order
-pub order-begun : (waiting : Waiting) (actor : Actor) (number : ℕ) (numbers : List ℕ) → map.get waiting actor ≡ Some (number ∷ numbers) → AreInOrder waiting → AreInOrder (with_queue waiting actor numbers)
-order-begun waiting actor number [] queue order = at_actors actor_total actor_exact actor (λ a. IfSome (map.get (map.remove waiting actor) a) (IsInOrder a))
+pub order-begun : (waiting : Waiting) (actor : Actor) (number : ℕ) (numbers : List ℕ)
+    → map.get waiting actor ≡ Some (number ∷ numbers) → AreInOrder waiting
+    → AreInOrder (with_queue waiting actor numbers)
+order-begun waiting actor number [] queue order =
+    at_actors actor_total actor_exact actor (λ a. IfSome (map.get (map.remove waiting actor) a) (IsInOrder a))
     (subst (λ found. IfSome found (IsInOrder actor)) (sym (get-remove_same actor_total actor_exact waiting actor)) tt)
-    (λ other differ. subst (λ found. IfSome found (IsInOrder other)) (sym (get-remove_other actor_total actor_exact waiting actor other differ)) (order other))
+    (λ other differ. subst (λ found. IfSome found (IsInOrder other))
+    (sym (get-remove_other actor_total actor_exact waiting actor other differ)) (order other))
 order-begun waiting actor number (n ∷ ns) queue order =
-    let was : IsInOrder actor (number ∷ n ∷ ns) = subst (λ found. IfSome found (IsInOrder actor)) queue (order actor) in
+    let was : IsInOrder actor (number ∷ n ∷ ns) =
+    subst (λ found. IfSome found (IsInOrder actor)) queue (order actor) in
     at_actors actor_total actor_exact actor (λ a. IfSome (map.get (map.insert waiting actor (n ∷ ns)) a) (IsInOrder a))
-    (subst (λ found. IfSome found (IsInOrder actor)) (sym (get-insert_same actor_total actor_exact waiting actor (n ∷ ns))) was.1)
-    (λ other differ. subst (λ found. IfSome found (IsInOrder other)) (sym (get-insert_other actor_total actor_exact waiting actor (n ∷ ns) other differ)) (order other))
+    (subst (λ found. IfSome found (IsInOrder actor))
+    (sym (get-insert_same actor_total actor_exact waiting actor (n ∷ ns))) was.1)
+    (λ other differ. subst (λ found. IfSome found (IsInOrder other))
+    (sym (get-insert_other actor_total actor_exact waiting actor (n ∷ ns) other differ)) (order other))
 
 -- a queue that was changed is in order where its new numbers are
-pub order-put : (waiting : Waiting) (actor : Actor) (numbers : List ℕ) → IsInOrder actor numbers → AreInOrder waiting → AreInOrder (map.insert waiting actor numbers)
-order-put waiting actor numbers own order = at_actors actor_total actor_exact actor (λ a. IfSome (map.get (map.insert waiting actor numbers) a) (IsInOrder a))
-    (subst (λ found. IfSome found (IsInOrder actor)) (sym (get-insert_same actor_total actor_exact waiting actor numbers)) own)
-    (λ other differ. subst (λ found. IfSome found (IsInOrder other)) (sym (get-insert_other actor_total actor_exact waiting actor numbers other differ)) (order other))
+pub order-put : (waiting : Waiting) (actor : Actor) (numbers : List ℕ) → IsInOrder actor numbers → AreInOrder waiting
+    → AreInOrder (map.insert waiting actor numbers)
+order-put waiting actor numbers own order =
+    at_actors actor_total actor_exact actor (λ a. IfSome (map.get (map.insert waiting actor numbers) a) (IsInOrder a))
+    (subst (λ found. IfSome found (IsInOrder actor))
+    (sym (get-insert_same actor_total actor_exact waiting actor numbers)) own)
+    (λ other differ. subst (λ found. IfSome found (IsInOrder other))
+    (sym (get-insert_other actor_total actor_exact waiting actor numbers other differ)) (order other))
 
 -- what a turn leaves as it was, and in order
 record Leaves {D : Type 0} (before after : BookState D) : Type 0 where
@@ -100,7 +98,7 @@ module _ {D : Type 0} (disk : D → Disk) (counts : D → Counts) (before after 
     seed = ap (λ b. b.seed) replies.state;
     level = ap (λ b. b.tracker.level) replies.state;
     still = λ differ. subst (λ p. p ≢ Halted) (sym (ap (λ b. b.tracker.phase) replies.state))
-        (reply-phase before.tracker.phase replies.command replies.reply differ);
+        (never-stops before.tracker.phase replies.command replies.reply differ);
     order = λ order. subst AreInOrder (sym (ap (λ b. b.docket.waiting) replies.state)) order;
   }
 
@@ -110,7 +108,8 @@ module _ {D : Type 0} (disk : D → Disk) (counts : D → Counts) (before after 
   answers-leave Waits waits = same-leaves before after waits.2
 
   -- whatever a turn answers
-  pub turn-kept : (turn : Turn) → IsBetweenLines disk counts before → Answers counts before after actor turn → IsWhole disk counts after → IsKept disk counts before after
+  pub turn-kept : (turn : Turn) → IsBetweenLines disk counts before → Answers counts before after actor turn
+      → IsWhole disk counts after → IsKept disk counts before after
   turn-kept turn between answers whole =
       let leaves = answers-leave turn answers in
       record {
@@ -124,9 +123,17 @@ module _ {D : Type 0} (disk : D → Disk) (counts : D → Counts) (before after 
 
 module _ {D : Type 0} (disk : D → Disk) (counts : D → Counts) where
   pub kept-same : (book : BookState D) → IsBetweenLines disk counts book → IsKept disk counts book book
-  kept-same book between = record { commands = refl; orders = refl; seed = refl; counted = counts-same counts book book refl refl; still = λ differ. differ; between = between }
+  kept-same book between = record {
+    commands = refl;
+    orders = refl;
+    seed = refl;
+    counted = counts-same counts book book refl refl;
+    still = λ differ. differ;
+    between = between;
+  }
 
-  pub kept-joined : (before between after : BookState D) → IsKept disk counts before between → IsKept disk counts between after → IsKept disk counts before after
+  pub kept-joined : (before between after : BookState D) → IsKept disk counts before between
+      → IsKept disk counts between after → IsKept disk counts before after
   kept-joined before between after first second = record {
     commands = second.commands ∙ first.commands;
     orders = second.orders ∙ first.orders;

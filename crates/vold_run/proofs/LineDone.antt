@@ -1,18 +1,23 @@
 -- What each line of a script leaves of a Book.
-use Rattle.std.proofs.Common.{◌≡◌, ◌≢◌, ℕ, ◌+◌, min, List, [], ◌∷◌, ◌++◌, length, take, refl, sym, ap, ◌∙◌, subst, arith}
+use Rattle.std.proofs.Common.{◌≡◌, ◌≢◌, ℕ, ◌+◌, min, List, [], ◌∷◌, ◌++◌}
+use Rattle.std.proofs.Common.{length, take, refl, sym, ap, ◌∙◌, subst, arith}
 use Rattle.std.proofs.lemmas.List.{append-nil}
-use Rattle.std.specs.Prelude.{Result, Ok, Err, IsOk, OnOk}
+use Rattle.std.specs.Prelude.{Option, Some, None, Result, Ok, Err, IsOk, OnOk}
 use Rattle.tree_model.specs.declared.memory.NoMemory.{NoMemory}
 use Rattle.tree_model.specs.declared.ops.Cut.{Cut}
 use Rattle.tree_model.specs.Disk.{Disk}
 use Rattle.tree_model.specs.Tree.{changes_in}
 use Rattle.tree_model.specs.Counted.{Counts}
 use Rattle.journal_model.specs.declared.commands.Actor.{Actor}
+use Rattle.journal_model.specs.declared.commands.Actor.TheVariants.{User}
 use Rattle.journal_model.specs.declared.commands.Command.{Command}
 use Rattle.journal_model.specs.declared.commands.EnqueueFault.{EnqueueFault}
-use Rattle.journal_model.specs.declared.commands.Command.TheVariants.{Create, Recover}
+use Rattle.journal_model.specs.declared.commands.Command.TheVariants.{Recover}
 use Rattle.journal_model.specs.declared.entries.Entry.TheVariants.{Restarted}
+use Rattle.journal_model.specs.Command.{actor_of, user_in}
 use Rattle.journal_model.specs.Machine.{machine_after, numbers_begun}
+use Rattle.journal_model.proofs.ByCommand.{no-user, of-user}
+use Rattle.docket.specs.Docket.{with_command as docket_with}
 use Rattle.script_text.specs.declared.script.Line.TheVariants.{Seed, Do, Turns, All, Stop, Restart}
 use Rattle.script_text.specs.Script.{IsLine}
 use Rattle.journal_model.specs.declared.phase.Phase.TheVariants.{Down, Halted}
@@ -38,8 +43,10 @@ no-more keep count is = omega (arith, is)
 down-runs : Down ≢ Halted
 down-runs e = cc
 
-module _ {D : Type 0} (disk : D → Disk) (counts : D → Counts) (before after : BookState D) (between : IsBetweenLines disk counts before) where
-  pub seed-done : (bytes : List ℕ) → before.tracker.phase ≢ Halted → after ≡ before → IsLineDone disk counts (Seed bytes) before after
+module _ {D : Type 0} (disk : D → Disk) (counts : D → Counts) (before after : BookState D)
+    (between : IsBetweenLines disk counts before) where
+  pub seed-done : (bytes : List ℕ) → before.tracker.phase ≢ Halted → after ≡ before
+      → IsLineDone disk counts (Seed bytes) before after
   seed-done bytes ready same = record {
     commands = ap (λ b. b.docket.commands) same ∙ sym (append-nil before.docket.commands);
     orders = ap (λ b. b.ledger.orders) same ∙ sym (append-nil before.ledger.orders);
@@ -51,8 +58,10 @@ module _ {D : Type 0} (disk : D → Disk) (counts : D → Counts) (before after 
     between = subst (IsBetweenLines disk counts) (sym same) between;
   }
 
-  pub command-done : (user : ℕ) → before.tracker.phase ≢ Halted → IsWhole disk counts after → after ≡ with_command before (Create user) → IsLineDone disk counts (Do (Create user)) before after
-  command-done user ready whole state = record {
+  pub command-done : (command : Command) (user : ℕ) → actor_of command ≡ User user → before.tracker.phase ≢ Halted
+      → IsWhole disk counts after → after ≡ with_command before command
+      → IsLineDone disk counts (Do command) before after
+  command-done command user own ready whole state = record {
     commands = ap (λ b. b.docket.commands) state;
     orders = ap (λ b. b.ledger.orders) state ∙ sym (append-nil before.ledger.orders);
     seed = ap (λ b. b.seed) state;
@@ -63,12 +72,16 @@ module _ {D : Type 0} (disk : D → Disk) (counts : D → Counts) (before after 
     between = record {
       whole = whole;
       level = ap (λ b. b.tracker.level) state ∙ between.level;
-      order = subst (λ b. AreInOrder b.docket.waiting) (sym state) (order-given (numbers_begun before.ledger.entries) before.docket between.whole.numbers.accounted
-          between.order user (Create user));
+      order = subst (λ b. AreInOrder b.docket.waiting) (sym state) (
+          subst (λ actor. AreInOrder (docket_with before.docket actor command).waiting) (sym own)
+          (order-given (numbers_begun before.ledger.entries) before.docket between.whole.numbers.accounted
+          between.order user command));
     };
   }
 
-  pub turns-done : (actor : Actor) (count : ℕ) → before.tracker.phase ≢ Halted → TurnsOf actor count (history_of before) (history_of after) → IsKept disk counts before after → IsLineDone disk counts (Turns actor count) before after
+  pub turns-done : (actor : Actor) (count : ℕ) → before.tracker.phase ≢ Halted
+      → TurnsOf actor count (history_of before) (history_of after) → IsKept disk counts before after
+      → IsLineDone disk counts (Turns actor count) before after
   turns-done actor count ready fits kept = record {
     commands = kept.commands ∙ sym (append-nil before.docket.commands);
     orders = kept.orders ∙ sym (append-nil before.ledger.orders);
@@ -80,7 +93,8 @@ module _ {D : Type 0} (disk : D → Disk) (counts : D → Counts) (before after 
     between = kept.between;
   }
 
-  pub all-done : before.tracker.phase ≢ Halted → AllFits (history_of before) (history_of after) → NothingLeft after → IsKept disk counts before after → IsLineDone disk counts All before after
+  pub all-done : before.tracker.phase ≢ Halted → AllFits (history_of before) (history_of after) → NothingLeft after
+      → IsKept disk counts before after → IsLineDone disk counts All before after
   all-done ready fits idle kept = record {
     commands = kept.commands ∙ sym (append-nil before.docket.commands);
     orders = kept.orders ∙ sym (append-nil before.ledger.orders);
@@ -93,18 +107,25 @@ module _ {D : Type 0} (disk : D → Disk) (counts : D → Counts) (before after 
   }
 
   -- where no operation is kept, no further change is
-  none-survive : (keep : ℕ) → keep ≡ 0 → survivors (timeline (disk before.tree) (machine_of before)) keep ≡ (machine_after before.ledger.entries).kept
+  none-survive : (keep : ℕ) → keep ≡ 0
+      → survivors (timeline (disk before.tree) (machine_of before)) keep ≡ (machine_after before.ledger.entries).kept
   none-survive keep is =
       let pending = (disk before.tree).pending in
-      let none : changes_in (disk before.tree).stable (take (min keep (length pending)) pending) ≡ 0 = ap (λ n. changes_in (disk before.tree).stable (take n pending)) (no-more keep (length pending) is) in
+      let none : changes_in (disk before.tree).stable (take (min keep (length pending)) pending) ≡ 0 =
+      ap (λ n. changes_in (disk before.tree).stable (take n pending)) (no-more keep (length pending) is) in
       omega (arith, none)
 
-  pub stop-done : (cut : Cut) → IsWhole disk counts after → IsStopped disk counts before after cut → IsLineDone disk counts (Stop cut) before after
+  pub stop-done : (cut : Cut) → IsWhole disk counts after → IsStopped disk counts before after cut
+      → IsLineDone disk counts (Stop cut) before after
   stop-done cut whole stopped = record {
     commands = ap (λ b. b.docket.commands) stopped.state ∙ sym (append-nil before.docket.commands);
     orders = ap (λ b. b.ledger.orders) stopped.state;
     seed = ap (λ b. b.seed) stopped.state;
-    fits = record { kept = survivors (timeline (disk before.tree) (machine_of before)) cut.keep; left = ap history_of stopped.state; none = λ is. none-survive cut.keep is };
+    fits = record {
+      kept = survivors (timeline (disk before.tree) (machine_of before)) cut.keep;
+      left = ap history_of stopped.state;
+      none = λ is. none-survive cut.keep is;
+    };
     counted = counts-same counts before after stopped.same_counts (ap (λ b. b.ledger.callers) stopped.state);
     idle = λ is. cc;
     still = ap (λ b. b.tracker.phase) stopped.state;
@@ -115,32 +136,53 @@ module _ {D : Type 0} (disk : D → Disk) (counts : D → Counts) (before after 
     };
   }
 
-  pub restart-done : (level : ℕ) → level ≡ 1 → IsWhole disk counts after → IsRestarted disk counts before after level → IsLineDone disk counts (Restart level) before after
+  pub restart-done : (level : ℕ) → level ≡ 1 → IsWhole disk counts after → IsRestarted disk counts before after level
+      → IsLineDone disk counts (Restart level) before after
   restart-done level one whole restarted = record {
     commands = ap (λ b. b.docket.commands) restarted.state;
     orders = ap (λ b. b.ledger.orders) restarted.state ∙ sym (append-nil before.ledger.orders);
     seed = ap (λ b. b.seed) restarted.state;
-    fits = ap history_of restarted.state ∙ ap (λ boot. record { commands = before.docket.commands ++ Recover ∷ []; entries = before.ledger.entries ++ Restarted (boot + 1) level ∷ []; calls = before.ledger.callers }) (sym between.whole.agrees.boot);
+    fits =
+        ap history_of restarted.state
+        ∙ ap (λ boot. record {
+          commands = before.docket.commands ++ Recover ∷ [];
+          entries = before.ledger.entries ++ Restarted (boot + 1) level ∷ [];
+          calls = before.ledger.callers;
+        })
+        (sym between.whole.agrees.boot);
     counted = counts-same counts before after restarted.same_counts (ap (λ b. b.ledger.callers) restarted.state);
     idle = λ is. cc;
     still = λ halted. down-runs (sym (ap (λ b. b.tracker.phase) restarted.state) ∙ halted);
     between = record {
       whole = whole;
       level = ap (λ b. b.tracker.level) restarted.state ∙ one;
-      order = subst (λ b. AreInOrder b.docket.waiting) (sym restarted.state) (order-restarted (numbers_begun before.ledger.entries) before.docket
+      order =
+          subst (λ b. AreInOrder b.docket.waiting) (sym restarted.state)
+          (order-restarted (numbers_begun before.ledger.entries) before.docket
           between.whole.numbers.accounted between.order Recover);
     };
   }
 
   -- where a command got its number
-  pub given-done : (command : Command) → IsLine (Do command) → before.tracker.phase ≢ Halted → IsWhole disk counts after → (answer : Result ℕ EnqueueFault) → IsEnqueued before after command answer → (result : Result (Unit {0}) NoMemory) → (IsOk result → IsOk answer) → OnOk result (IsLineDone disk counts (Do command) before after)
+  pub given-done : (command : Command) → IsLine (Do command) → before.tracker.phase ≢ Halted
+      → IsWhole disk counts after → (answer : Result ℕ EnqueueFault) → IsEnqueued before after command answer
+      → (result : Result (Unit {0}) NoMemory) → (IsOk result → IsOk answer)
+      → OnOk result (IsLineDone disk counts (Do command) before after)
   given-done command line ready whole answer enqueued (Err fault) given = tt
-  given-done (Create user) line ready whole (Ok number) enqueued (Ok done) given = command-done user ready whole enqueued.2
-  given-done Recover line ready whole (Ok number) enqueued (Ok done) given = absurd line.first
-  given-done command line ready whole (Err fault) enqueued (Ok done) given = absurd (not_ok (Err fault) fault refl (given refl))
+  given-done command line ready whole (Ok number) enqueued (Ok done) given = by (user_in command) refl
+    where
+      by : (user : Option ℕ) → user_in command ≡ user → IsLineDone disk counts (Do command) before after
+      by None is = absurd (subst (λ c. IsLine (Do c)) (no-user command is) line).first
+      by (Some user) is = command-done command user (of-user command user is) ready whole enqueued.2
+  given-done command line ready whole (Err fault) enqueued (Ok done) given =
+      absurd (not_ok (Err fault) fault refl (given refl))
 
   -- where a restart's recovery got its number
-  pub begun-done : (level : ℕ) → IsLine (Restart level) → IsWhole disk counts after → (answer : Result ℕ EnqueueFault) → OnOk answer (IsRestarted disk counts before after level) → (result : Result (Unit {0}) NoMemory) → (IsOk result → IsOk answer) → OnOk result (IsLineDone disk counts (Restart level) before after)
+  pub begun-done : (level : ℕ) → IsLine (Restart level) → IsWhole disk counts after → (answer : Result ℕ EnqueueFault)
+      → OnOk answer (IsRestarted disk counts before after level) → (result : Result (Unit {0}) NoMemory)
+      → (IsOk result → IsOk answer) → OnOk result (IsLineDone disk counts (Restart level) before after)
   begun-done level line whole answer restarted (Err fault) given = tt
-  begun-done level line whole (Ok number) restarted (Ok done) given = restart-done level (omega (arith, line.first.1, line.first.2)) whole restarted
-  begun-done level line whole (Err fault) restarted (Ok done) given = absurd (not_ok (Err fault) fault refl (given refl))
+  begun-done level line whole (Ok number) restarted (Ok done) given =
+      restart-done level (omega (arith, line.first.1, line.first.2)) whole restarted
+  begun-done level line whole (Err fault) restarted (Ok done) given =
+      absurd (not_ok (Err fault) fault refl (given refl))

@@ -8,7 +8,9 @@ use Rattle.tree_model.specs.Counted.{Counts, IsCounted}
 use Rattle.vold_run.specs.Shown.{IsAnswered, IsFailed}
 
 -- calls that fail in the same way are counted alike
-counted_alike : {T U : Type 0} (before after : Counts) (one : Result T DevFault) (other : Result U DevFault) → ((fault : DevFault) → IsErrOf one fault ↔ IsErrOf other fault) → IsCounted before after one → IsCounted before after other
+counted_alike : {T U : Type 0} (before after : Counts) (one : Result T DevFault) (other : Result U DevFault)
+    → ((fault : DevFault) → IsErrOf one fault ↔ IsErrOf other fault) → IsCounted before after one
+    → IsCounted before after other
 counted_alike before after one other same counted = record {
   same_plan = counted.same_plan;
   never_falls = counted.never_falls;
@@ -22,13 +24,24 @@ counted_alike before after one other same counted = record {
 }
 
 -- an answered look
-pub answered_look : {T : Type 0} (before after : Counts) (value : T) (result : Result T DevFault) → result ≡ Ok value → IsCounted before after result → IsAnswered before after
+pub answered_look : {T : Type 0} (before after : Counts) (value : T) (result : Result T DevFault) → result ≡ Ok value
+    → IsCounted before after result → IsAnswered before after
 answered_look before after value result answered counted =
     let look : Result Unit DevFault = Ok tt in
-    counted_alike before after result look (λ fault. (λ no. let never : Ok value ≡ Err fault = sym answered ∙ no in cc, λ no. let never : look ≡ Err fault = no in cc)) counted
+    counted_alike before after result look
+    (λ fault. (
+      λ no. let never : Ok value ≡ Err fault = sym answered ∙ no in
+          cc,
+      λ no. let never : look ≡ Err fault = no in cc,
+    )) counted
 
 -- a look in which the device failed
-pub failed_look : {T : Type 0} (before after : Counts) (result : Result T DevFault) → IsErrOf result Failed → IsCounted before after result → IsFailed before after
+pub failed_look : {T : Type 0} (before after : Counts) (result : Result T DevFault) → IsErrOf result Failed
+    → IsCounted before after result → IsFailed before after
 failed_look before after result failed counted =
     let look : Result Unit DevFault = Err Failed in
-    counted_alike before after result look (λ fault. (λ no. let same : Failed ≡ fault = let e = sym failed ∙ no in cc in ap Err same, λ no. let same : Failed ≡ fault = let e : look ≡ Err fault = no in cc in failed ∙ ap Err same)) counted
+    counted_alike before after result look
+    (λ fault. (
+      λ no. let same : Failed ≡ fault = let e = sym failed ∙ no in cc in ap Err same,
+      λ no. let same : Failed ≡ fault = let e : look ≡ Err fault = no in cc in failed ∙ ap Err same,
+    )) counted

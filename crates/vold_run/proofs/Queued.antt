@@ -16,7 +16,9 @@ use Rattle.vold_run.specs.Lines.{IsInOrder}
 use Rattle.vold_run.specs.Fits.{ComesBy}
 use Rattle.vold_run.proofs.Kept.{AreInOrder, order-put}
 
-order-behind : (actor : Actor) (numbers : List ℕ) (last : ℕ) → ((number : ℕ) → Contains numbers number → ComesBy actor number last) → IsInOrder actor numbers → IsInOrder actor (numbers ++ last ∷ [])
+order-behind : (actor : Actor) (numbers : List ℕ) (last : ℕ)
+    → ((number : ℕ) → Contains numbers number → ComesBy actor number last) → IsInOrder actor numbers
+    → IsInOrder actor (numbers ++ last ∷ [])
 order-behind actor [] last comes order = (λ other there. absurd (nothing_in other there), tt)
 order-behind actor (number ∷ numbers) last comes order = (
   λ other there. elim (Contains-push_cases numbers last other there) [
@@ -26,12 +28,15 @@ order-behind actor (number ∷ numbers) last comes order = (
   order-behind actor numbers last (λ n there. comes n (contains-there number numbers n there)) order.1,
 )
 
-order-queue : (actor : Actor) (found : Option (List ℕ)) → IfSome found (IsInOrder actor) → IsInOrder actor (unwrap_or found [])
+order-queue : (actor : Actor) (found : Option (List ℕ)) → IfSome found (IsInOrder actor)
+    → IsInOrder actor (unwrap_or found [])
 order-queue actor None order = tt
 order-queue actor (Some numbers) order = order
 
-module _ (taken : List ℕ) (docket : Docket) (stand : Accounted actor_of taken docket) (order : AreInOrder docket.waiting) where
-  below : (actor : Actor) (number : ℕ) → Contains (queue_of docket.waiting actor) number → number < length docket.commands
+module _ (taken : List ℕ) (docket : Docket) (stand : Accounted actor_of taken docket)
+    (order : AreInOrder docket.waiting) where
+  below : (actor : Actor) (number : ℕ) → Contains (queue_of docket.waiting actor) number
+      → number < length docket.commands
   below actor number there = queue-within actor_total actor_exact actor_of docket taken stand actor number there
 
   -- a user's command waits behind those that were given before

@@ -1,5 +1,6 @@
 -- Turns make rounds, and rounds and given turns make a line.
-use Rattle.std.proofs.Common.{◌≡◌, ◌≢◌, ◌⊎◌, inl, inr, ℕ, zero, suc, ◌+◌, ◌<◌, List, [], ◌∷◌, ◌++◌, refl, sym, ap, subst, add-one}
+use Rattle.std.proofs.Common.{◌≡◌, ◌≢◌, ◌⊎◌, inl, inr, ℕ, zero, suc, ◌+◌, ◌<◌, List}
+use Rattle.std.proofs.Common.{[], ◌∷◌, ◌++◌, refl, sym, ap, subst, add-one}
 use Rattle.std.specs.Prelude.{Option, Some, None, IsSome, IsNone}
 use Rattle.std.specs.FinMap as map
 use Rattle.tree_model.specs.Disk.{Disk}
@@ -14,26 +15,45 @@ use Rattle.vold_book.specs.Turns.{Answers, Falls, Goes, IsIdle}
 use Rattle.vold_book.specs.Whole.{turns_left}
 use Rattle.vold_run.specs.Rounds.{NothingLeft}
 use Rattle.vold_run.specs.Lines.{IsBetweenLines}
-use Rattle.vold_run.specs.Fits.{History, history_of, IsNextAtWork, TurnFits, TurnsFit, RoundFits, RoundsFit, AllFits, MayTurn, TurnsOf}
-use Rattle.vold_run.proofs.Work.{turn-fits, next-fits, none-fits, waits-fits, idle-fits, none-behind, at-work, work-takes, work-busy}
+use Rattle.vold_run.specs.Fits.{History, history_of, IsNextAtWork, TurnFits, TurnsFit}
+use Rattle.vold_run.specs.Fits.{RoundFits, RoundsFit, AllFits, MayTurn, TurnsOf}
+use Rattle.vold_run.proofs.Work.{turn-fits, next-fits, none-fits, waits-fits, idle-fits}
+use Rattle.vold_run.proofs.Work.{none-behind, at-work, work-takes, work-busy}
 
-turns_more : (actors : List Actor) (actor : Actor) (before between after : History) (first last : Option Actor) → TurnsFit actors before first between last → IsNextAtWork between last actor → TurnFits between actor after → TurnsFit (actors ++ actor ∷ []) before first after (Some actor)
-turns_more [] actor before between after first last turns next turn =
-    (subst (λ l. IsNextAtWork before l actor) turns.1 (subst (λ b. IsNextAtWork b last actor) turns.0 next), (after, subst (λ b. TurnFits b actor after) turns.0 turn, (refl, refl)))
-turns_more (other ∷ actors) actor before between after first last turns next turn =
-    (turns.0, (turns.1.0, turns.1.1, turns_more actors actor turns.1.0 between after (Some other) last turns.1.2 next turn))
+turns_more : (actors : List Actor) (actor : Actor) (before between after : History) (first last : Option Actor)
+    → TurnsFit actors before first between last → IsNextAtWork between last actor → TurnFits between actor after
+    → TurnsFit (actors ++ actor ∷ []) before first after (Some actor)
+turns_more [] actor before between after first last turns next turn = (
+  subst (λ l. IsNextAtWork before l actor) turns.1 (subst (λ b. IsNextAtWork b last actor) turns.0 next),
+  (after, subst (λ b. TurnFits b actor after) turns.0 turn, (refl, refl)),
+)
+turns_more (other ∷ actors) actor before between after first last turns next turn = (
+  turns.0,
+  (
+    turns.1.0,
+    turns.1.1,
+    turns_more actors actor turns.1.0 between after (Some other) last turns.1.2 next turn,
+  ),
+)
 
-pub rounds_more : (count : ℕ) (before between after : History) → RoundsFit count before between → RoundFits between after → RoundsFit (suc count) before after
+pub rounds_more : (count : ℕ) (before between after : History) → RoundsFit count before between
+    → RoundFits between after → RoundsFit (suc count) before after
 rounds_more zero before between after rounds round = (after, subst (λ b. RoundFits b after) rounds round, refl)
-rounds_more (suc count) before between after rounds round = (rounds.0, rounds.1, rounds_more count rounds.0 between after rounds.2 round)
+rounds_more (suc count) before between after rounds round =
+    (rounds.0, rounds.1, rounds_more count rounds.0 between after rounds.2 round)
 
-turns_of_more : (actor : Actor) (count : ℕ) (before between after : History) → TurnsOf actor count before between → MayTurn actor between after → TurnsOf actor (suc count) before after
+turns_of_more : (actor : Actor) (count : ℕ) (before between after : History) → TurnsOf actor count before between
+    → MayTurn actor between after → TurnsOf actor (suc count) before after
 turns_of_more actor zero before between after turns turn = (after, subst (λ b. MayTurn actor b after) turns turn, refl)
-turns_of_more actor (suc count) before between after turns turn = (turns.0, turns.1, turns_of_more actor count turns.0 between after turns.2 turn)
+turns_of_more actor (suc count) before between after turns turn =
+    (turns.0, turns.1, turns_of_more actor count turns.0 between after turns.2 turn)
 
 -- a further turn that an actor is given
-pub turns-more : (actor : Actor) (count : ℕ) (before between after : History) → TurnsOf actor count before between → MayTurn actor between after → TurnsOf actor (count + 1) before after
-turns-more actor count before between after turns turn = subst (λ n. TurnsOf actor n before after) (sym (add-one count)) (turns_of_more actor count before between after turns turn)
+pub turns-more : (actor : Actor) (count : ℕ) (before between after : History) → TurnsOf actor count before between
+    → MayTurn actor between after → TurnsOf actor (count + 1) before after
+turns-more actor count before between after turns turn =
+    subst (λ n. TurnsOf actor n before after) (sym (add-one count))
+    (turns_of_more actor count before between after turns turn)
 
 -- a round as far as it has come: its turns so far, and the next busy actor after the last of them
 pub record RoundGoes {D : Type 0} (before : History) (book : BookState D) (next : Option Actor) : Type 0 where
@@ -46,7 +66,8 @@ pub record RoundGoes {D : Type 0} (before : History) (book : BookState D) (next 
 busy : {D : Type 0} (book : BookState D) (actor : Actor) → ¬ (IsIdle book actor) → IsBusy book.docket actor
 busy book actor not = by (map.get book.docket.running actor) (map.get book.docket.waiting actor) not
   where
-    by : {A B : Type 0} (runs : Option A) (waits : Option B) → ¬ (IsNone runs × IsNone waits) → IsSome runs ⊎ IsSome waits
+    by : {A B : Type 0} (runs : Option A) (waits : Option B) → ¬ (IsNone runs × IsNone waits)
+        → IsSome runs ⊎ IsSome waits
     by (Some it) waits not = inl refl
     by None (Some numbers) not = inr refl
     by None None not = absurd (not (refl, refl))
@@ -57,65 +78,103 @@ idle-not book actor idle (inr waits) = cc (waits, idle.1)
 
 module _ {D : Type 0} (disk : D → Disk) (counts : D → Counts) (before after : BookState D) where
   -- a turn that went
-  pub went : (actor : Actor) (turn : Turn) → turn ≡ Went → Answers counts before after actor turn → Goes counts before after actor
+  pub went : (actor : Actor) (turn : Turn) → turn ≡ Went → Answers counts before after actor turn
+      → Goes counts before after actor
   went actor Went is answers = answers
   went actor Idle is answers = cc
   went actor Waits is answers = cc
 
   -- and leaves fewer turns
-  pub went-falls : (turn : Turn) → turn ≡ Went → Falls disk before after turn → turns_left disk after < turns_left disk before
+  pub went-falls : (turn : Turn) → turn ≡ Went → Falls disk before after turn
+      → turns_left disk after < turns_left disk before
   went-falls Went is falls = falls
   went-falls Idle is falls = cc
   went-falls Waits is falls = cc
 
   -- a busy actor's turn that didn't go waits for the machine, and nothing changed
-  pub waited : (actor : Actor) (turn : Turn) → turn ≢ Went → IsBusy before.docket actor → Answers counts before after actor turn → ¬ (TakesTurn before.tracker.phase actor) × (after ≡ before)
+  pub waited : (actor : Actor) (turn : Turn) → turn ≢ Went → IsBusy before.docket actor
+      → Answers counts before after actor turn → ¬ (TakesTurn before.tracker.phase actor) × (after ≡ before)
   waited actor Went not busy answers = absurd (not refl)
   waited actor Idle not busy answers = absurd (idle-not before actor answers.0 busy)
   waited actor Waits not busy answers = (answers.1, answers.2)
 
   -- where the first busy actor waits, all wait
-  pub all-wait : (first : Actor) (turn : Turn) → turn ≢ Went → IsNextBusy before.docket None (Some first) → Answers counts before after first turn → NothingLeft before × (after ≡ before)
+  pub all-wait : (first : Actor) (turn : Turn) → turn ≢ Went → IsNextBusy before.docket None (Some first)
+      → Answers counts before after first turn → NothingLeft before × (after ≡ before)
   all-wait first turn not is answers =
       let waits = waited first turn not is.0 answers in
       (λ actor busy takes. none-behind before.tracker.phase first actor waits.0 takes (is.2 actor busy tt), waits.1)
 
   -- a turn that an actor is given, whatever it answers
-  pub may-turn : (actor : Actor) (turn : Turn) → IsBetweenLines disk counts before → Answers counts before after actor turn → MayTurn actor (history_of before) (history_of after)
-  may-turn actor Went between goes = inl (at-work disk counts before between.whole actor (busy before actor goes.busy) goes.takes, turn-fits disk counts before after actor between goes)
-  may-turn actor Idle between idle = inr (λ work. idle-not before actor idle.0 (work-busy disk counts before between.whole actor work), ap history_of idle.1)
-  may-turn actor Waits between waits = inr (λ work. waits.1 (work-takes disk counts before between.whole actor work), ap history_of waits.2)
+  pub may-turn : (actor : Actor) (turn : Turn) → IsBetweenLines disk counts before
+      → Answers counts before after actor turn → MayTurn actor (history_of before) (history_of after)
+  may-turn actor Went between goes =
+      inl (
+        at-work disk counts before between.whole actor (busy before actor goes.busy) goes.takes,
+        turn-fits disk counts before after actor between goes,
+      )
+  may-turn actor Idle between idle =
+      inr (
+        λ work. idle-not before actor idle.0 (work-busy disk counts before between.whole actor work),
+        ap history_of idle.1,
+      )
+  may-turn actor Waits between waits =
+      inr (λ work. waits.1 (work-takes disk counts before between.whole actor work), ap history_of waits.2)
 
 module _ {D : Type 0} (disk : D → Disk) (counts : D → Counts) where
-  pub round-begins : (before after : BookState D) (first : Actor) (next : Option Actor) → IsBetweenLines disk counts before → IsNextBusy before.docket None (Some first) → Goes counts before after first → IsNextBusy after.docket (Some first) next
+  pub round-begins : (before after : BookState D) (first : Actor) (next : Option Actor)
+      → IsBetweenLines disk counts before → IsNextBusy before.docket None (Some first)
+      → Goes counts before after first → IsNextBusy after.docket (Some first) next
       → RoundGoes (history_of before) after next
   round-begins before after first next between is goes then = record {
     actors = first ∷ [];
     last = first;
-    turns = (next-fits disk counts before between.whole None first is goes.takes, (history_of after, turn-fits disk counts before after first between goes, (refl, refl)));
+    turns = (
+      next-fits disk counts before between.whole None first is goes.takes,
+      (history_of after, turn-fits disk counts before after first between goes, (refl, refl)),
+    );
     coming = then;
   }
 
-  pub round-goes : (start : History) (before after : BookState D) (actor : Actor) (next : Option Actor) → RoundGoes start before (Some actor) → IsBetweenLines disk counts before → Goes counts before after actor → IsNextBusy after.docket (Some actor) next
+  pub round-goes : (start : History) (before after : BookState D) (actor : Actor) (next : Option Actor)
+      → RoundGoes start before (Some actor) → IsBetweenLines disk counts before → Goes counts before after actor
+      → IsNextBusy after.docket (Some actor) next
       → RoundGoes start after next
   round-goes start before after actor next going between goes then = record {
     actors = going.actors ++ actor ∷ [];
     last = actor;
-    turns = turns_more going.actors actor start (history_of before) (history_of after) None (Some going.last) going.turns (next-fits disk counts before between.whole (Some going.last) actor going.coming goes.takes)
+    turns =
+        turns_more going.actors actor start (history_of before) (history_of after) None (Some going.last) going.turns
+        (next-fits disk counts before between.whole (Some going.last) actor going.coming goes.takes)
         (turn-fits disk counts before after actor between goes);
     coming = then;
   }
 
-  pub round-ends : (start : History) (book : BookState D) → RoundGoes start book None → IsBetweenLines disk counts book → RoundFits start (history_of book)
-  round-ends start book going between = record { actors = going.actors; last = Some going.last; turns = going.turns; ended = none-fits disk counts book between.whole (Some going.last) going.coming }
+  pub round-ends : (start : History) (book : BookState D) → RoundGoes start book None
+      → IsBetweenLines disk counts book → RoundFits start (history_of book)
+  round-ends start book going between = record {
+    actors = going.actors;
+    last = Some going.last;
+    turns = going.turns;
+    ended = none-fits disk counts book between.whole (Some going.last) going.coming;
+  }
 
   -- the next busy actor waits for the machine, and so do all behind it
-  pub round-waits : (start : History) (before after : BookState D) (actor : Actor) (turn : Turn) → turn ≢ Went → RoundGoes start before (Some actor) → IsBetweenLines disk counts before → Answers counts before after actor turn → RoundFits start (history_of after)
+  pub round-waits : (start : History) (before after : BookState D) (actor : Actor) (turn : Turn) → turn ≢ Went
+      → RoundGoes start before (Some actor) → IsBetweenLines disk counts before
+      → Answers counts before after actor turn → RoundFits start (history_of after)
   round-waits start before after actor turn not going between answers =
       let waits = waited disk counts before after actor turn not going.coming.0 answers in
       subst (λ book. RoundFits start (history_of book)) (sym waits.1)
-      (record { actors = going.actors; last = Some going.last; turns = going.turns; ended = waits-fits disk counts before between.whole (Some going.last) actor going.coming waits.0 })
+      (record {
+        actors = going.actors;
+        last = Some going.last;
+        turns = going.turns;
+        ended = waits-fits disk counts before between.whole (Some going.last) actor going.coming waits.0;
+      })
 
   -- when no actor is at work, the rounds are all
-  pub all-ends : (start : History) (book : BookState D) (count : ℕ) → RoundsFit count start (history_of book) → IsBetweenLines disk counts book → NothingLeft book → AllFits start (history_of book)
-  all-ends start book count rounds between idle = record { count = count; rounds = rounds; ended = idle-fits disk counts book between.whole idle }
+  pub all-ends : (start : History) (book : BookState D) (count : ℕ) → RoundsFit count start (history_of book)
+      → IsBetweenLines disk counts book → NothingLeft book → AllFits start (history_of book)
+  all-ends start book count rounds between idle =
+      record { count = count; rounds = rounds; ended = idle-fits disk counts book between.whole idle }

@@ -1,5 +1,7 @@
--- What a whole Book's actors run and what waits for them is what the journal and the given commands tell, and so is each turn.
+-- What a whole Book's actors run and what waits for them is what the journal and the given commands tell, and so is
+-- each turn.
 use Rattle.std.specs.declared.cmp.Ordering.TheVariants.{Less, Equal}
+use Rattle.std.proofs.lemmas.Option.{same_Some}
 use Rattle.std.proofs.Common.{◌≡◌, ◌⊎◌, inl, inr, ℕ, List, [], ◌∷◌, ◌++◌, refl, sym, ap, ◌∙◌, subst, arith}
 use Rattle.std.specs.Prelude.{Option, Some, None, IsSome, IfSome, IsSomeAnd, Contains, slice_get}
 use Rattle.std.specs.FinMap as map
@@ -25,7 +27,8 @@ use Rattle.docket.specs.Accounts.{AllWait}
 use Rattle.docket.proofs.Accounts.{contains-cons}
 use Rattle.vold_run.specs.Rounds.{NothingLeft}
 use Rattle.vold_run.specs.Lines.{IsInOrder, IsBetweenLines}
-use Rattle.vold_run.specs.Fits.{history_of, Waits, Runs, HasWork, IsAtWork, NoWork, ComesBy, IsNextAtWork, NoneAtWork, BeginsNext, IsNoted, TurnFits}
+use Rattle.vold_run.specs.Fits.{history_of, Waits, Runs, HasWork, IsAtWork, NoWork, ComesBy, IsNextAtWork, NoneAtWork}
+use Rattle.vold_run.specs.Fits.{BeginsNext, IsNoted, TurnFits}
 
 there : {A : Type 0} (found : Option A) (P : A → Type 0) → IsSomeAnd found P → (a : A) × (found ≡ Some a) × P a
 there None P h = absurd h
@@ -42,18 +45,16 @@ is_there (Some a) P h = refl
 there_and_not : {A : Type 0} (found : Option A) → IsSome found → found ≡ None → ⊥
 there_and_not found there none = cc
 
-pub some_same : {A : Type 0} (a b : A) → Some a ≡ Some b → a ≡ b
-some_same a b e = cc
-
 -- where the machine takes no turn of an actor, it takes none of those behind it
 pub none-behind : (phase : Phase) (actor other : Actor) → ¬ (TakesTurn phase actor) → TakesTurn phase other
     → (actor_cmp actor other ≡ Less) ⊎ (actor_cmp actor other ≡ Equal) → ⊥
 none-behind Up actor other waits takes order = waits tt
 none-behind Down Boot other waits takes order = waits refl
-none-behind Down Cp other waits takes order = elim (subst (λ o. (actor_cmp Cp o ≡ Less) ⊎ (actor_cmp Cp o ≡ Equal)) takes order) [
-  | inl less ↦ cc
-  | inr equal ↦ cc
-]
+none-behind Down Cp other waits takes order =
+    elim (subst (λ o. (actor_cmp Cp o ≡ Less) ⊎ (actor_cmp Cp o ≡ Equal)) takes order) [
+      | inl less ↦ cc
+      | inr equal ↦ cc
+    ]
 none-behind Down (User user) other waits takes order =
     elim (subst (λ o. (actor_cmp (User user) o ≡ Less) ⊎ (actor_cmp (User user) o ≡ Equal)) takes order) [
       | inl less ↦ cc
@@ -66,12 +67,16 @@ comes-itself Boot number = omega arith
 comes-itself Cp number = omega arith
 comes-itself (User user) number = omega arith
 
-module _ {D : Type 0} (disk : D → Disk) (counts : D → Counts) (book : BookState D) (whole : IsWhole disk counts book) where
-  runs-run : (actor : Actor) (number : ℕ) → Runs (history_of book) actor number → IsSome (map.get book.docket.running actor)
+module _ {D : Type 0} (disk : D → Disk) (counts : D → Counts) (book : BookState D)
+    (whole : IsWhole disk counts book) where
+  runs-run : (actor : Actor) (number : ℕ) → Runs (history_of book) actor number
+      → IsSome (map.get book.docket.running actor)
   runs-run actor number runs =
-      let began = there (map.get (machine_after book.ledger.entries).running number) (λ running. actor_of running.command ≡ actor) runs in
+      let began = there (map.get (machine_after book.ledger.entries).running number)
+      (λ running. actor_of running.command ≡ actor) runs in
       is_there (map.get book.docket.running actor) (λ it. it.number ≡ number)
-      (subst (λ a. IsSomeAnd (map.get book.docket.running a) (λ it. it.number ≡ number)) began.2 (whole.all number began.0 began.1))
+      (subst (λ a. IsSomeAnd (map.get book.docket.running a) (λ it. it.number ≡ number)) began.2
+      (whole.all number began.0 began.1))
 
   -- what runs began, and got no reply
   pub run-runs : (actor : Actor) (it : Running) → map.get book.docket.running actor ≡ Some it
@@ -86,13 +91,16 @@ module _ {D : Type 0} (disk : D → Disk) (counts : D → Counts) (book : BookSt
       let given = there (slice_get book.docket.commands number) (λ command. actor_of command ≡ actor) waits.0 in
       elim (whole.numbers.accounted.kept number given.0 given.1) [
         | inl began ↦ absurd (waits.1 began)
-        | inr queued ↦ subst (λ a. IsSomeAnd (map.get book.docket.waiting a) (λ numbers. Contains numbers number)) given.2 queued
+        | inr queued ↦
+            subst (λ a. IsSomeAnd (map.get book.docket.waiting a) (λ numbers. Contains numbers number)) given.2 queued
       ]
 
-  queue-waits : (actor : Actor) (number : ℕ) (numbers : List ℕ) → map.get book.docket.waiting actor ≡ Some (number ∷ numbers)
+  queue-waits : (actor : Actor) (number : ℕ) (numbers : List ℕ)
+      → map.get book.docket.waiting actor ≡ Some (number ∷ numbers)
       → Waits (history_of book) actor number
   queue-waits actor number numbers at =
-      let wait = subst (λ found. IfSome found (AllWait actor_of book.docket.commands (numbers_begun book.ledger.entries) actor)) at
+      let wait = subst
+      (λ found. IfSome found (AllWait actor_of book.docket.commands (numbers_begun book.ledger.entries) actor)) at
       (whole.numbers.accounted.queues actor) in
       (wait.0, wait.1)
 
@@ -112,7 +120,8 @@ module _ {D : Type 0} (disk : D → Disk) (counts : D → Counts) (book : BookSt
   works-busy : (actor : Actor) → HasWork (history_of book) actor → IsBusy book.docket actor
   works-busy actor (number, inl runs) = inl (runs-run actor number runs)
   works-busy actor (number, inr waits) =
-      inr (is_there (map.get book.docket.waiting actor) (λ numbers. Contains numbers number) (waits-queue actor number waits))
+      inr (is_there (map.get book.docket.waiting actor) (λ numbers. Contains numbers number)
+      (waits-queue actor number waits))
 
   -- an actor is at work where it is busy and has turns
   pub at-work : (actor : Actor) → IsBusy book.docket actor → TakesTurn book.tracker.phase actor
@@ -128,20 +137,30 @@ module _ {D : Type 0} (disk : D → Disk) (counts : D → Counts) (book : BookSt
   pub work-busy : (actor : Actor) → IsAtWork (history_of book) actor → IsBusy book.docket actor
   work-busy actor work = works-busy actor work.works
 
-  pub next-fits : (after : Option Actor) (next : Actor) → IsNextBusy book.docket after (Some next) → TakesTurn book.tracker.phase next → IsNextAtWork (history_of book) after next
-  next-fits after next is takes = record { works = at-work next is.0 takes; later = is.1; first = λ other works later. is.2 other (work-busy other works) later }
+  pub next-fits : (after : Option Actor) (next : Actor) → IsNextBusy book.docket after (Some next)
+      → TakesTurn book.tracker.phase next → IsNextAtWork (history_of book) after next
+  next-fits after next is takes = record {
+    works = at-work next is.0 takes;
+    later = is.1;
+    first = λ other works later. is.2 other (work-busy other works) later;
+  }
 
   -- no actor is at work behind the last one: none is busy, or the machine takes no turn of the next one
   pub none-fits : (after : Option Actor) → IsNextBusy book.docket after None → NoneAtWork (history_of book) after
   none-fits after none other works later = none other (work-busy other works) later
 
-  pub waits-fits : (after : Option Actor) (next : Actor) → IsNextBusy book.docket after (Some next) → ¬ (TakesTurn book.tracker.phase next) → NoneAtWork (history_of book) after
-  waits-fits after next is waits other works later = none-behind book.tracker.phase next other waits (work-takes other works) (is.2 other (work-busy other works) later)
+  pub waits-fits : (after : Option Actor) (next : Actor) → IsNextBusy book.docket after (Some next)
+      → ¬ (TakesTurn book.tracker.phase next) → NoneAtWork (history_of book) after
+  waits-fits after next is waits other works later =
+      none-behind book.tracker.phase next other waits (work-takes other works)
+      (is.2 other (work-busy other works) later)
 
   pub idle-fits : NothingLeft book → NoWork (history_of book)
   idle-fits idle actor works = idle actor (work-busy actor works) (work-takes actor works)
 
-  begins-fits : (after : BookState D) (actor : Actor) → IfSome (map.get book.docket.waiting actor) (IsInOrder actor) → map.get book.docket.running actor ≡ None → Begins book after actor → BeginsNext (history_of book) actor (history_of after)
+  begins-fits : (after : BookState D) (actor : Actor) → IfSome (map.get book.docket.waiting actor) (IsInOrder actor)
+      → map.get book.docket.running actor ≡ None → Begins book after actor
+      → BeginsNext (history_of book) actor (history_of after)
   begins-fits after actor order none begins = record {
     number = begins.number;
     command = begins.command;
@@ -157,8 +176,10 @@ module _ {D : Type 0} (disk : D → Disk) (counts : D → Counts) (book : BookSt
 
       first : (other : ℕ) → Waits (history_of book) actor other → ComesBy actor begins.number other
       first other waits =
-          let queue = there (map.get book.docket.waiting actor) (λ numbers. Contains numbers other) (waits-queue actor other waits) in
-          let same : queue.0 ≡ begins.number ∷ begins.numbers = some_same queue.0 (begins.number ∷ begins.numbers) (sym queue.1 ∙ begins.queued) in
+          let queue = there (map.get book.docket.waiting actor) (λ numbers. Contains numbers other)
+          (waits-queue actor other waits) in
+          let same : queue.0 ≡ begins.number ∷ begins.numbers =
+          same_Some queue.0 (begins.number ∷ begins.numbers) (sym queue.1 ∙ begins.queued) in
           let within = subst (λ numbers. Contains numbers other) same queue.2 in
           elim (contains-cons begins.number begins.numbers other within) [
             | inl is ↦ subst (ComesBy actor begins.number) is (comes-itself actor begins.number)
@@ -175,7 +196,8 @@ entry-noted number (Some entry) (inr (change, is)) entries =
 
 -- a turn that went fits
 pub turn-fits : {D : Type 0} (disk : D → Disk) (counts : D → Counts) (book after : BookState D) (actor : Actor)
-    → IsBetweenLines disk counts book → Goes counts book after actor → TurnFits (history_of book) actor (history_of after)
+    → IsBetweenLines disk counts book → Goes counts book after actor
+    → TurnFits (history_of book) actor (history_of after)
 turn-fits disk counts book after actor between goes = from goes.turn
   where
     from : Turns counts book after actor → TurnFits (history_of book) actor (history_of after)
@@ -189,7 +211,8 @@ turn-fits disk counts book after actor between goes = from goes.turn
           runs = run-runs disk counts book between.whole actor calls.it calls.runs;
           noted = noted.1;
           left = ap history_of calls.state
-              ∙ ap (λ entries. record (history_of book) { entries = entries; calls = book.ledger.callers ++ actor ∷ [] }) noted.2;
+              ∙ ap (λ entries. record
+              (history_of book) { entries = entries; calls = book.ledger.callers ++ actor ∷ [] }) noted.2;
         }))
     from (inr (inr replies)) = inr (inr (record {
       number = replies.it.number;

@@ -6,7 +6,8 @@ use Rattle.tree_model.specs.Counted.{Counts}
 use Rattle.vold_io.specs.Transfers.{AddsFront}
 use Rattle.script_text.specs.declared.script.Line.{Line}
 use Rattle.script_text.specs.declared.status.Status.{Status}
-use Rattle.script_text.specs.declared.status.Status.TheVariants.{Done, Usage, BadScript, ReadFault, WriteFault, NoMemory}
+use Rattle.script_text.specs.declared.status.Status.TheVariants.{Done, Usage, BadScript}
+use Rattle.script_text.specs.declared.status.Status.TheVariants.{ReadFault, WriteFault, NoMemory}
 use Rattle.script_text.specs.Script.{seed_of}
 use Rattle.script_text.specs.Status.{message_of}
 use Rattle.vold_book.specs.State.{BookState}
@@ -23,7 +24,8 @@ abbrev pub InPlaceOf : Status → Status → Type 0
 InPlaceOf wanted status = (status ≡ wanted) ⊎ (status ≡ WriteFault) ⊎ (status ≡ NoMemory)
 
 -- the lines are done on a Book that was as `start`, and the text shows it
-pub record IsDone {D : Type 0} (disk : D → Disk) (counts : D → Counts) (start : BookState D) (lines : List Line) (book : BookState D) (text : List ℕ) : Type 0 where
+pub record IsDone {D : Type 0} (disk : D → Disk) (counts : D → Counts) (start : BookState D) (lines : List Line)
+    (book : BookState D) (text : List ℕ) : Type 0 where
   -- the numbered commands are those of the lines, in order, and what began with a number is the command of that number
   pub commands : book.docket.commands ≡ commands_of lines
   pub began : AllAsGiven (commands_of lines) book.ledger.entries
@@ -40,29 +42,35 @@ pub record IsDone {D : Type 0} (disk : D → Disk) (counts : D → Counts) (star
   pub shown : Shows disk counts worked book text
 
 -- the lines are done, and the sink took the whole text that shows it
-pub record Prints {D : Type 0} (disk : D → Disk) (counts : D → Counts) (start : BookState D) (lines : List Line) (book : BookState D) (taken taken' : Option (List ℕ)) : Type 0 where
+pub record Prints {D : Type 0} (disk : D → Disk) (counts : D → Counts) (start : BookState D) (lines : List Line)
+    (book : BookState D) (taken taken' : Option (List ℕ)) : Type 0 where
   pub text : List ℕ
   pub done : IsDone disk counts start lines book text
   pub written : taken' ≡ append_known taken text
 
 -- the same, but the sink took a front of the text
-pub record PrintsFront {D : Type 0} (disk : D → Disk) (counts : D → Counts) (start : BookState D) (lines : List Line) (book : BookState D) (taken taken' : Option (List ℕ)) : Type 0 where
+pub record PrintsFront {D : Type 0} (disk : D → Disk) (counts : D → Counts) (start : BookState D) (lines : List Line)
+    (book : BookState D) (taken taken' : Option (List ℕ)) : Type 0 where
   pub text : List ℕ
   pub done : IsDone disk counts start lines book text
   pub front : AddsFront text taken taken'
 
 -- how the work on a Book ends
-abbrev pub WorkEnds : {D : Type 0} → (D → Disk) → (D → Counts) → BookState D → List Line → BookState D → Option (List ℕ) → Option (List ℕ) → Status → Type 0
+abbrev pub WorkEnds : {D : Type 0} → (D → Disk) → (D → Counts) → BookState D → List Line → BookState D
+    → Option (List ℕ) → Option (List ℕ) → Status → Type 0
 WorkEnds disk counts start lines book taken taken' Done = Prints disk counts start lines book taken taken'
 WorkEnds disk counts start lines book taken taken' WriteFault = PrintsFront disk counts start lines book taken taken'
-WorkEnds disk counts start lines book taken taken' NoMemory = (taken' ≡ taken) ⊎ PrintsFront disk counts start lines book taken taken'
+WorkEnds disk counts start lines book taken taken' NoMemory =
+    (taken' ≡ taken) ⊎ PrintsFront disk counts start lines book taken taken'
 WorkEnds disk counts start lines book taken taken' Usage = ⊥
 WorkEnds disk counts start lines book taken taken' BadScript = ⊥
 WorkEnds disk counts start lines book taken taken' ReadFault = ⊥
 
 -- how a run of lines ends: without a Book only where memory ran out
-abbrev pub LinesEnd : {D : Type 0} → (D → Disk) → (D → Counts) → BookState D → List Line → Option (List ℕ) → Option (List ℕ) → Status → Option (BookState D) → Type 0
-LinesEnd disk counts start lines taken taken' status (Some book) = WorkEnds disk counts start lines book taken taken' status
+abbrev pub LinesEnd : {D : Type 0} → (D → Disk) → (D → Counts) → BookState D → List Line → Option (List ℕ)
+    → Option (List ℕ) → Status → Option (BookState D) → Type 0
+LinesEnd disk counts start lines taken taken' status (Some book) =
+    WorkEnds disk counts start lines book taken taken' status
 LinesEnd disk counts start lines taken taken' status None = (status ≡ NoMemory) × (taken' ≡ taken)
 
 -- what the sink took of a text, by the status
@@ -74,20 +82,24 @@ Takes ReadFault text taken taken' = taken' ≡ append_known taken text
 Takes WriteFault text taken taken' = AddsFront text taken taken'
 Takes NoMemory text taken taken' = AddsFront text taken taken'
 
--- the script came whole, its lines are done on a Book that was opened with the script's seed, and the sink took the whole text that shows it
-pub record RunPrints {D : Type 0} (disk : D → Disk) (counts : D → Counts) (start : List ℕ → BookState D) (before after taken taken' : Option (List ℕ)) (book : BookState D) : Type 0 where
+-- the script came whole, its lines are done on a Book that was opened with the script's seed, and the sink took the
+-- whole text that shows it
+pub record RunPrints {D : Type 0} (disk : D → Disk) (counts : D → Counts) (start : List ℕ → BookState D)
+    (before after taken taken' : Option (List ℕ)) (book : BookState D) : Type 0 where
   pub lines : List Line
   pub came : ScriptCame before after lines
   pub printed : Prints disk counts (start (seed_of lines)) lines book taken taken'
 
 -- the same, but the sink took a front of the text
-pub record RunPrintsFront {D : Type 0} (disk : D → Disk) (counts : D → Counts) (start : List ℕ → BookState D) (before after taken taken' : Option (List ℕ)) (book : BookState D) : Type 0 where
+pub record RunPrintsFront {D : Type 0} (disk : D → Disk) (counts : D → Counts) (start : List ℕ → BookState D)
+    (before after taken taken' : Option (List ℕ)) (book : BookState D) : Type 0 where
   pub lines : List Line
   pub came : ScriptCame before after lines
   pub printed : PrintsFront disk counts (start (seed_of lines)) lines book taken taken'
 
 -- there are no lines to do, and the sink took a front of the message that tells why
-pub record TellsFront (words : List (List ℕ)) (before after : Option (List ℕ)) (faults faults' : ℕ) (taken taken' : Option (List ℕ)) : Type 0 where
+pub record TellsFront (words : List (List ℕ)) (before after : Option (List ℕ)) (faults faults' : ℕ)
+    (taken taken' : Option (List ℕ)) : Type 0 where
   pub cause : Status
   pub why : IsCause words before after faults faults' cause
   pub front : AddsFront (message_of cause) taken taken'
@@ -96,7 +108,12 @@ pub record TellsFront (words : List (List ℕ)) (before after : Option (List ℕ
 abbrev pub HasMessage : Status → Type 0
 HasMessage status = (status ≡ Usage) ⊎ (status ≡ BadScript) ⊎ (status ≡ ReadFault)
 
--- what was to be written, of which the sink took a front: with a Book what shows it, else the message that tells why there is none
-abbrev pub WritesFront : {D : Type 0} → (D → Disk) → (D → Counts) → (List ℕ → BookState D) → List (List ℕ) → (before after : Option (List ℕ)) → (faults faults' : ℕ) → (taken taken' : Option (List ℕ)) → Option (BookState D) → Type 0
-WritesFront disk counts start words before after faults faults' taken taken' None = TellsFront words before after faults faults' taken taken'
-WritesFront disk counts start words before after faults faults' taken taken' (Some book) = RunPrintsFront disk counts start before after taken taken' book
+-- what was to be written, of which the sink took a front: with a Book what shows it, else the message that tells why
+-- there is none
+abbrev pub WritesFront : {D : Type 0} → (D → Disk) → (D → Counts) → (List ℕ → BookState D) → List (List ℕ)
+    → (before after : Option (List ℕ)) → (faults faults' : ℕ) → (taken taken' : Option (List ℕ))
+    → Option (BookState D) → Type 0
+WritesFront disk counts start words before after faults faults' taken taken' None =
+    TellsFront words before after faults faults' taken taken'
+WritesFront disk counts start words before after faults faults' taken taken' (Some book) =
+    RunPrintsFront disk counts start before after taken taken' book

@@ -1,6 +1,7 @@
--- Who moved in which line: how the lines of a script, the entries of a journal and the device's calls fit together. What
--- waits and what runs is read off the commands that were given and the journal.
-use Rattle.std.specs.Prelude.{◌≡◌, ℕ, zero, suc, ◌+◌, ◌≤◌, ◌⊎◌, List, [], ◌∷◌, ◌++◌, Option, Some, None, IsSomeAnd, Contains, slice_get}
+-- Who moved in which line: how the lines of a script, the entries of a journal and the device's calls fit together.
+-- What waits and what runs is read off the commands that were given and the journal.
+use Rattle.std.specs.Prelude.{◌≡◌, ℕ, zero, suc, ◌+◌, ◌≤◌, ◌⊎◌, List, [], ◌∷◌, ◌++◌}
+use Rattle.std.specs.Prelude.{Option, Some, None, IsSomeAnd, Contains, slice_get}
 use Rattle.std.specs.declared.cmp.Ordering.TheVariants.{Less, Equal}
 use Rattle.std.specs.FinMap as map
 use Rattle.tree_model.specs.declared.ops.Cut.{Cut}
@@ -31,15 +32,22 @@ abbrev pub nothing : History
 nothing = record { commands = []; entries = []; calls = [] }
 
 abbrev pub history_of : {D : Type 0} → BookState D → History
-history_of book = record { commands = book.docket.commands; entries = book.ledger.entries; calls = book.ledger.callers }
+history_of book = record {
+  commands = book.docket.commands;
+  entries = book.ledger.entries;
+  calls = book.ledger.callers;
+}
 
 -- the number was given to a command of the actor, which didn't begin
 abbrev pub Waits : History → Actor → ℕ → Type 0
-Waits history actor number = IsSomeAnd (slice_get history.commands number) (λ command. actor_of command ≡ actor) × ¬ (Contains (numbers_begun history.entries) number)
+Waits history actor number =
+    IsSomeAnd (slice_get history.commands number) (λ command. actor_of command ≡ actor)
+    × ¬ (Contains (numbers_begun history.entries) number)
 
 -- a command of the actor began with the number, and neither got its reply nor was lost in a stop
 abbrev pub Runs : History → Actor → ℕ → Type 0
-Runs history actor number = IsSomeAnd (map.get (machine_after history.entries).running number) (λ running. actor_of running.command ≡ actor)
+Runs history actor number =
+    IsSomeAnd (map.get (machine_after history.entries).running number) (λ running. actor_of running.command ≡ actor)
 
 -- the actor has something to do
 abbrev pub HasWork : History → Actor → Type 0
@@ -58,12 +66,14 @@ NoWork history = (actor : Actor) → ¬ (IsAtWork history actor)
 pub record IsNextAtWork (history : History) (after : Option Actor) (next : Actor) : Type 0 where
   pub works : IsAtWork history next
   pub later : IsAfter actor_cmp after next
-  pub first : (other : Actor) → IsAtWork history other → IsAfter actor_cmp after other → (actor_cmp next other ≡ Less) ⊎ (actor_cmp next other ≡ Equal)
+  pub first : (other : Actor) → IsAtWork history other → IsAfter actor_cmp after other
+      → (actor_cmp next other ≡ Less) ⊎ (actor_cmp next other ≡ Equal)
 
 abbrev pub NoneAtWork : History → Option Actor → Type 0
 NoneAtWork history after = (other : Actor) → IsAtWork history other → IsAfter actor_cmp after other → ⊥
 
--- which of an actor's numbers begins before another: the lower one, but of the recoveries that restarts gave the newest
+-- which of an actor's numbers begins before another: the lower one, but of the recoveries that restarts gave the
+-- newest
 abbrev pub ComesBy : Actor → ℕ → ℕ → Type 0
 ComesBy Boot number other = other ≤ number
 ComesBy Cp number other = number ≤ other
@@ -100,12 +110,15 @@ pub record RepliesOnce (before : History) (actor : Actor) (after : History) : Ty
 
 -- one turn of an actor
 abbrev pub TurnFits : History → Actor → History → Type 0
-TurnFits before actor after = BeginsNext before actor after ⊎ (CallsOnce before actor after ⊎ RepliesOnce before actor after)
+TurnFits before actor after =
+    BeginsNext before actor after ⊎ (CallsOnce before actor after ⊎ RepliesOnce before actor after)
 
 -- turns of these actors, each the next at work after the one before
 abbrev pub TurnsFit : List Actor → History → Option Actor → History → Option Actor → Type 0
 TurnsFit [] before last after last' = (after ≡ before) × (last' ≡ last)
-TurnsFit (actor ∷ actors) before last after last' = IsNextAtWork before last actor × ((between : History) × TurnFits before actor between × TurnsFit actors between (Some actor) after last')
+TurnsFit (actor ∷ actors) before last after last' =
+    IsNextAtWork before last actor
+    × ((between : History) × TurnFits before actor between × TurnsFit actors between (Some actor) after last')
 
 -- a round: one turn of each actor at work, in the order of actors
 pub record RoundFits (before after : History) : Type 0 where
@@ -127,12 +140,14 @@ pub record AllFits (before after : History) : Type 0 where
 
 -- a turn that an actor is given: it makes one where it is at work, and else nothing happens
 abbrev pub MayTurn : Actor → History → History → Type 0
-MayTurn actor before after = (IsAtWork before actor × TurnFits before actor after) ⊎ (¬ (IsAtWork before actor) × (after ≡ before))
+MayTurn actor before after =
+    (IsAtWork before actor × TurnFits before actor after) ⊎ (¬ (IsAtWork before actor) × (after ≡ before))
 
 -- so many turns that an actor is given
 abbrev pub TurnsOf : Actor → ℕ → History → History → Type 0
 TurnsOf actor zero before after = after ≡ before
-TurnsOf actor (suc count) before after = (between : History) × MayTurn actor before between × TurnsOf actor count between after
+TurnsOf actor (suc count) before after =
+    (between : History) × MayTurn actor before between × TurnsOf actor count between after
 
 -- the machine stops: no turn is made, and where no pending operation is kept the changes are those that were durable
 pub record StopFits (cut : Cut) (before after : History) : Type 0 where
@@ -140,8 +155,8 @@ pub record StopFits (cut : Cut) (before after : History) : Type 0 where
   pub left : after ≡ record before { entries = before.entries ++ Stopped kept ∷ [] }
   pub none : cut.keep ≡ 0 → kept ≡ (machine_after before.entries).kept
 
--- what a line does: a command is given; an actor gets so many turns; every actor works until none is at work; the machine
--- stops; it starts again, and a recovery is given
+-- what a line does: a command is given; an actor gets so many turns; every actor works until none is at work; the
+-- machine stops; it starts again, and a recovery is given
 abbrev pub LineFits : Line → History → History → Type 0
 LineFits (Seed bytes) before after = after ≡ before
 LineFits (Do command) before after = after ≡ record before { commands = before.commands ++ command ∷ [] }
@@ -156,4 +171,5 @@ LineFits (Restart level) before after = after ≡ record before {
 -- what the lines do, one after another
 abbrev pub LinesFit : List Line → History → History → Type 0
 LinesFit [] before after = after ≡ before
-LinesFit (line ∷ lines) before after = (between : History) × LineFits line before between × LinesFit lines between after
+LinesFit (line ∷ lines) before after =
+    (between : History) × LineFits line before between × LinesFit lines between after

@@ -4,7 +4,8 @@ use Rattle.std.specs.Io.KnownBytes.{prepend_known, IsAtEnd}
 use Rattle.tree_model.specs.Counted.{Rose}
 use Rattle.script_text.specs.declared.script.Line.{Line}
 use Rattle.script_text.specs.declared.status.Status.{Status}
-use Rattle.script_text.specs.declared.status.Status.TheVariants.{Done, Usage, BadScript, ReadFault, WriteFault, NoMemory}
+use Rattle.script_text.specs.declared.status.Status.TheVariants.{Done, Usage, BadScript}
+use Rattle.script_text.specs.declared.status.Status.TheVariants.{ReadFault, WriteFault, NoMemory}
 use Rattle.script_text.specs.Script.{IsScript, IsNoScript}
 
 -- the one word that is accepted

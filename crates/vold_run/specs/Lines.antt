@@ -66,7 +66,8 @@ StandsStill before phase = MatchBool (is_stop before) (phase ≡ Halted) (phase 
 -- each number of a queue comes before those behind it
 abbrev pub IsInOrder : Actor → List ℕ → Type 0
 IsInOrder actor [] = Unit {0}
-IsInOrder actor (number ∷ numbers) = ((other : ℕ) → Contains numbers other → ComesBy actor number other) × IsInOrder actor numbers
+IsInOrder actor (number ∷ numbers) =
+    ((other : ℕ) → Contains numbers other → ComesBy actor number other) × IsInOrder actor numbers
 
 -- a Book between the lines of a script
 pub record IsBetweenLines {D : Type 0} (disk : D → Disk) (counts : D → Counts) (book : BookState D) : Type 0 where
@@ -93,7 +94,8 @@ IsReadyFor (Stop cut) phase = phase ≢ Halted
 IsReadyFor (Restart level) phase = phase ≡ Halted
 
 -- a line is done
-pub record IsLineDone {D : Type 0} (disk : D → Disk) (counts : D → Counts) (line : Line) (before after : BookState D) : Type 0 where
+pub record IsLineDone {D : Type 0} (disk : D → Disk) (counts : D → Counts) (line : Line)
+    (before after : BookState D) : Type 0 where
   pub commands : after.docket.commands ≡ before.docket.commands ++ command_of line
   pub orders : after.ledger.orders ≡ before.ledger.orders ++ order_of line
   pub seed : after.seed ≡ before.seed
@@ -104,7 +106,8 @@ pub record IsLineDone {D : Type 0} (disk : D → Disk) (counts : D → Counts) (
   pub between : IsBetweenLines disk counts after
 
 -- lines are done, where `prior` is the line before them
-pub record AreLinesDone {D : Type 0} (disk : D → Disk) (counts : D → Counts) (prior : Option Line) (lines : List Line) (before after : BookState D) : Type 0 where
+pub record AreLinesDone {D : Type 0} (disk : D → Disk) (counts : D → Counts) (prior : Option Line) (lines : List Line)
+    (before after : BookState D) : Type 0 where
   pub commands : after.docket.commands ≡ before.docket.commands ++ commands_of lines
   pub orders : after.ledger.orders ≡ before.ledger.orders ++ orders_of lines
   pub seed : after.seed ≡ before.seed

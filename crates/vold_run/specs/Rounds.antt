@@ -14,5 +14,6 @@ NothingLeft book = (actor : Actor) → IsBusy book.docket actor → ¬ (TakesTur
 
 -- how a round ends: it was made, and fewer turns are left; or the machine took no turn, and nothing changed
 abbrev pub RoundEnds : {D : Type 0} → (D → Disk) → BookState D → BookState D → Bool → Type 0
-RoundEnds disk before after true = RoundFits (history_of before) (history_of after) × (turns_left disk after < turns_left disk before)
+RoundEnds disk before after true =
+    RoundFits (history_of before) (history_of after) × (turns_left disk after < turns_left disk before)
 RoundEnds disk before after false = NothingLeft before × (after ≡ before)

@@ -41,7 +41,8 @@ looks_for tree = suc (length (map.entries tree))
 
 -- exactly the looks were made that read the tree, and the device answered each
 abbrev pub ReadsTree : {D : Type 0} → (D → Disk) → (D → Counts) → BookState D → BookState D → Type 0
-ReadsTree disk counts before after = AreAnswered (looks_for (view (disk before.tree))) (counts before.tree) (counts after.tree)
+ReadsTree disk counts before after =
+    AreAnswered (looks_for (view (disk before.tree))) (counts before.tree) (counts after.tree)
 
 -- the device failed in one of the looks that read the tree: it answered those before, and none was made after it
 pub record FailsToRead {D : Type 0} (disk : D → Disk) (counts : D → Counts) (before after : BookState D) : Type 0 where

@@ -16,8 +16,11 @@ pub fn script_of<S: Source>(
     words: &[String],
     source: &mut S,
 ) -> Result<Script, Status>
-    ensures script { IfOk result (λ lines. IsAccepted (map string_bytes words.now) × ScriptCame (S.rest source.old) (S.rest source.new) lines) }
-    ensures cause { IfErr result (IsCause (map string_bytes words.now) (S.rest source.old) (S.rest source.new) (S.fault_count source.old) (S.fault_count source.new)) }
+    ensures script { IfOk result
+        (λ lines. IsAccepted (map string_bytes words.now) × ScriptCame (S.rest source.old) (S.rest source.new) lines) }
+    ensures cause { IfErr result
+        (IsCause (map string_bytes words.now) (S.rest source.old) (S.rest source.new) (S.fault_count source.old)
+        (S.fault_count source.new)) }
     ensures unread { IsErrOf result Status.Usage → source.new ≡ source.old }
     ensures at_most { LosesAtMost (most_bytes + 1) (S.rest source.old) (S.rest source.new) }
     ensures steady { S.never_fails source.old → ¬ (IsErrOf result Status.ReadFault) }

@@ -3,12 +3,14 @@
 #![tactic(auto)]
 
 mod input;
+mod laws;
 mod lines;
 mod output;
 mod program;
 mod rounds;
 mod runs;
 
+pub use laws::law_of_plans;
 pub use program::{WordsFault, asked_words, exit_number};
 pub use runs::run;
 

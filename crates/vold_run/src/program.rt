@@ -42,8 +42,8 @@ pub fn asked_words(
     }
 }
 
-/// The number that the program ends with: that of the run's status, but that of a write fault where the output could not
-/// be flushed behind the run. Where memory ran out before the run there is no status.
+/// The number that the program ends with: that of the run's status, but that of a write fault where the output could
+/// not be flushed behind the run. Where memory ran out before the run there is no status.
 pub fn exit_number(ended: Result<Status, NoMemory>, flushed: Result<(), SinkFault>) -> u8
     ensures no_memory { IsErr ended → result ≡ number_of_status Status.NoMemory }
     ensures unflushed { IsOk ended → IsErr flushed → result ≡ number_of_status Status.WriteFault }

@@ -9,8 +9,8 @@ use journal_model::Actor;
 use tree_model::{NoMemory, TreeDisk};
 use vold_book::{Book, Turn};
 
-/// Makes rounds, in each of which every busy actor has one turn in the order of actors, until the machine takes no turn of
-/// a busy actor.
+/// Makes rounds, in each of which every busy actor has one turn in the order of actors, until the machine takes no
+/// turn of a busy actor.
 pub fn finish<T: TreeDisk>(book: &mut Book<T>) -> Result<(), NoMemory>
     requires { IsBetweenLines T.disk T.counts book.old }
     ensures fits { OnOk result (AllFits (history_of book.old) (history_of book.new)) }
@@ -26,8 +26,8 @@ pub fn finish<T: TreeDisk>(book: &mut Book<T>) -> Result<(), NoMemory>
     Ok(())
 }
 
-/// Makes one round from the first busy actor on, which leaves fewer turns. The answer is false where the machine takes no
-/// turn of that actor, and then none of the others either.
+/// Makes one round from the first busy actor on, which leaves fewer turns. The answer is false where the machine
+/// takes no turn of that actor, and then none of the others either.
 fn round<T: TreeDisk>(book: &mut Book<T>, first: Actor) -> Result<bool, NoMemory>
     requires between { IsBetweenLines T.disk T.counts book.old }
     requires first { IsNextBusy book.old.docket None (Some first) }

@@ -10,7 +10,8 @@ ghost use Rattle.vold_book.specs.Turns.{new_book, opened_at};
 ghost use Rattle.vold_io.specs.Transfers.{LosesAtMost};
 ghost use Rattle.vold_run.specs.Lines.{IsFresh};
 ghost use Rattle.vold_run.specs.Input.{most_bytes, IsAccepted, IsRefused, RefusedCame, SomeScriptCame};
-ghost use Rattle.vold_run.specs.Ends.{HasMessage, InPlaceOf, IsDone, LinesEnd, RunPrints, Takes, WorkEnds, WritesFront};
+ghost use Rattle.vold_run.specs.Ends.{HasMessage, InPlaceOf, IsDone, LinesEnd};
+ghost use Rattle.vold_run.specs.Ends.{RunPrints, Takes, WorkEnds, WritesFront};
 
 use crate::{input, lines, output};
 use script_text::{Line, Script, Status};
@@ -19,10 +20,10 @@ use tree_model::{Bytes, NoMemory, TreeDisk};
 use vold_book::{Book, RunEnd};
 use vold_io::{Sink, SinkFault, Source, write_all};
 
-/// Reads a script from the source, does its lines on a Book over the tree, and writes the Book's journal and tree to the
-/// sink. The words are those after the program's name; `run` alone is accepted. Where there is no script to do, the
-/// status's message is written and no Book is handed back. No more than one byte past the most that a script has is
-/// taken from the source.
+/// Reads a script from the source, does its lines on a Book over the tree, and writes the Book's journal and tree to
+/// the sink. The words are those after the program's name; `run` alone is accepted. Where there is no script to do,
+/// the status's message is written and no Book is handed back. No more than one byte past the most that a script has
+/// is taken from the source.
 pub fn run<S: Source, K: Sink, T: TreeDisk>(
     alloc: Global,
     words: &[String],
@@ -35,17 +36,39 @@ pub fn run<S: Source, K: Sink, T: TreeDisk>(
     ensures other_words { ¬ (IsAccepted (map string_bytes words.now)) → InPlaceOf Status.Usage result.status }
     ensures unread { ¬ (IsAccepted (map string_bytes words.now)) → source.new ≡ source.old }
     ensures at_most { LosesAtMost (most_bytes + 1) (S.rest source.old) (S.rest source.new) }
-    ensures read_fault { result.status ≡ Status.ReadFault → Rose (S.fault_count source.old) (S.fault_count source.new) }
-    ensures bad_script { result.status ≡ Status.BadScript → (S.fault_count source.new ≡ S.fault_count source.old) × RefusedCame (S.rest source.old) (S.rest source.new) }
-    ensures refused { IsAccepted (map string_bytes words.now) → ¬ (Rose (S.fault_count source.old) (S.fault_count source.new)) → IfSome (S.rest source.old) (λ told. IsRefused told → InPlaceOf Status.BadScript result.status) }
+    ensures read_fault { result.status ≡ Status.ReadFault
+        → Rose (S.fault_count source.old) (S.fault_count source.new) }
+    ensures bad_script { result.status ≡ Status.BadScript
+        → (S.fault_count source.new ≡ S.fault_count source.old) × RefusedCame (S.rest source.old) (S.rest source.new) }
+    ensures refused { IsAccepted (map string_bytes words.now)
+        → ¬ (Rose (S.fault_count source.old) (S.fault_count source.new))
+        → IfSome (S.rest source.old) (λ told. IsRefused told → InPlaceOf Status.BadScript result.status) }
     ensures write_fault { result.status ≡ Status.WriteFault → Rose (K.fault_count sink.old) (K.fault_count sink.new) }
-    ensures done { result.status ≡ Status.Done → IsSomeAnd result.book (RunPrints T.disk T.counts (new_book tree (opened_at (T.counts tree))) (S.rest source.old) (S.rest source.new) (K.taken sink.old) (K.taken sink.new)) }
-    ensures message { HasMessage result.status → (K.taken sink.new ≡ append_known (K.taken sink.old) (message_of result.status)) × IsNone result.book }
-    ensures front { result.status ≡ Status.WriteFault → WritesFront T.disk T.counts (new_book tree (opened_at (T.counts tree))) (map string_bytes words.now) (S.rest source.old) (S.rest source.new) (S.fault_count source.old) (S.fault_count source.new) (K.taken sink.old) (K.taken sink.new) result.book }
-    ensures no_memory { result.status ≡ Status.NoMemory → (K.taken sink.new ≡ K.taken sink.old) ⊎ (WritesFront T.disk T.counts (new_book tree (opened_at (T.counts tree))) (map string_bytes words.now) (S.rest source.old) (S.rest source.new) (S.fault_count source.old) (S.fault_count source.new) (K.taken sink.old) (K.taken sink.new) result.book) }
-    ensures book { IfSome result.book (λ _. IsAccepted (map string_bytes words.now) × SomeScriptCame (S.rest source.old) (S.rest source.new) × InPlaceOf Status.Done result.status) }
-    ensures read { IsAccepted (map string_bytes words.now) → ¬ (Rose (S.fault_count source.old) (S.fault_count source.new)) → IfSome (S.rest source.old) (λ told. ¬ (IsRefused told) → IsSome result.book ⊎ (result.status ≡ Status.NoMemory)) }
-    ensures complete { IsAccepted (map string_bytes words.now) → S.never_fails source.old → K.never_fails sink.old → IfSome (S.rest source.old) (λ told. ¬ (IsRefused told) → (result.status ≡ Status.Done) ⊎ (result.status ≡ Status.NoMemory)) }
+    ensures done { result.status ≡ Status.Done
+        → IsSomeAnd result.book
+        (RunPrints T.disk T.counts (new_book tree (opened_at (T.counts tree))) (S.rest source.old) (S.rest source.new)
+        (K.taken sink.old) (K.taken sink.new)) }
+    ensures message { HasMessage result.status
+        → (K.taken sink.new ≡ append_known (K.taken sink.old) (message_of result.status)) × IsNone result.book }
+    ensures front { result.status ≡ Status.WriteFault
+        → WritesFront T.disk T.counts (new_book tree (opened_at (T.counts tree))) (map string_bytes words.now)
+        (S.rest source.old) (S.rest source.new) (S.fault_count source.old) (S.fault_count source.new)
+        (K.taken sink.old) (K.taken sink.new) result.book }
+    ensures no_memory { result.status ≡ Status.NoMemory
+        → (K.taken sink.new ≡ K.taken sink.old)
+        ⊎ (WritesFront T.disk T.counts (new_book tree (opened_at (T.counts tree))) (map string_bytes words.now)
+        (S.rest source.old) (S.rest source.new) (S.fault_count source.old) (S.fault_count source.new)
+        (K.taken sink.old) (K.taken sink.new) result.book) }
+    ensures book { IfSome result.book
+        (λ _. IsAccepted (map string_bytes words.now) × SomeScriptCame (S.rest source.old) (S.rest source.new)
+        × InPlaceOf Status.Done result.status) }
+    ensures read { IsAccepted (map string_bytes words.now)
+        → ¬ (Rose (S.fault_count source.old) (S.fault_count source.new))
+        → IfSome (S.rest source.old)
+        (λ told. ¬ (IsRefused told) → IsSome result.book ⊎ (result.status ≡ Status.NoMemory)) }
+    ensures complete { IsAccepted (map string_bytes words.now) → S.never_fails source.old → K.never_fails sink.old
+        → IfSome (S.rest source.old)
+        (λ told. ¬ (IsRefused told) → (result.status ≡ Status.Done) ⊎ (result.status ≡ Status.NoMemory)) }
     ensures whole { IfSome result.book (IsWhole T.disk T.counts) }
 {
     match input::script_of(alloc, words, source) {
@@ -65,7 +88,8 @@ fn run_script<K: Sink, T: TreeDisk>(
     tree: T,
 ) -> RunEnd<T>
     requires empty { T.disk tree ≡ record { stable = finite.empty; pending = [] } }
-    ensures ended { LinesEnd T.disk T.counts (new_book tree (opened_at (T.counts tree)) (seed_of script.now)) script.now (K.taken sink.old) (K.taken sink.new) result.status result.book }
+    ensures ended { LinesEnd T.disk T.counts (new_book tree (opened_at (T.counts tree)) (seed_of script.now))
+        script.now (K.taken sink.old) (K.taken sink.new) result.status result.book }
     ensures faults { result.status ≡ Status.WriteFault → Rose (K.fault_count sink.old) (K.fault_count sink.new) }
     ensures steady { K.never_fails sink.old → result.status ≢ Status.WriteFault }
     ensures whole { IfSome result.book (IsWhole T.disk T.counts) }

@@ -13,13 +13,16 @@ returns-then-is_debris c =
     let is = c.loop-place.invariant.keys in (
       c.is_debris.ensures.0 c.if-is_debris.true,
       found-left places items is i _ (omega arith),
-      found-below places items is i _ (omega arith) (IsDebris (held place_cmp c.args.places.now)) c.loop-place.invariant.none,
+      found-below places items is i _ (omega arith)
+          (IsDebris (held place_cmp c.args.places.now)) c.loop-place.invariant.none,
     )
 
 pub loop-place-preserved : goal.loop-place-preserved
 loop-place-preserved c = record {
   keys = c.loop-place.invariant.keys;
-  none = none_in-more (IsDebris (held place_cmp c.args.places.now)) c.keys-place-items.result.now c.loop-place.place-index _ (omega arith)
+  none =
+      none_in-more (IsDebris (held place_cmp c.args.places.now)) c.keys-place-items.result.now
+      c.loop-place.place-index _ (omega arith)
       c.loop-place.invariant.none (denied _ _ c.is_debris.ensures c.if-is_debris.false);
 }
 

@@ -9,6 +9,8 @@ loop-change-preserved c =
     let was = c.loop-change.invariant.count in
     let bound = c.loop-change.invariant.bound in
     elim c.if-change.branch [
-      | then-change w ↦ let now = rw w.if-change.true at more in record { count = omega (arith, now, was, w.count-is); bound = omega (arith, bound, w.count-is) }
-      | else-change w ↦ let now = rw w.if-change.false at more in record { count = omega (arith, now, was, w.count-is); bound = omega (arith, bound, w.count-is) }
+      | then-change w ↦ let now = rw w.if-change.true at more in
+          record { count = omega (arith, now, was, w.count-is); bound = omega (arith, bound, w.count-is) }
+      | else-change w ↦ let now = rw w.if-change.false at more in
+          record { count = omega (arith, now, was, w.count-is); bound = omega (arith, bound, w.count-is) }
     ]

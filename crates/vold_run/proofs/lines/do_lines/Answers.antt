@@ -9,15 +9,21 @@ do_line-requires-clause-ready g c =
     let lines = c.args.lines.now in
     let i = c.loop-line.line-index in
     subst (λ line. IsReadyFor line c.loop-line.book.tracker.phase) (sym c.line-item.is)
-    (ready-for (last_of None (take i lines)) (get_or lines i c.line-item.result) c.loop-line.book.tracker.phase (follows None lines i c.line-item.result c.loop-line-test.true c.requires.order) c.loop-line.invariant.done.still)
+    (ready-for (last_of None (take i lines)) (get_or lines i c.line-item.result) c.loop-line.book.tracker.phase
+    (follows None lines i c.line-item.result c.loop-line-test.true c.requires.order) c.loop-line.invariant.done.still)
 
 pub loop-line-preserved : goal.loop-line-preserved
 loop-line-preserved g c =
     let lines = c.args.lines.now in
     let before = c.loop-line.book in
     let after = c.do_line.new.book in
-    let done = subst (λ line. IsLineDone g.T.TreeDisk.disk g.T.TreeDisk.counts line before after) c.line-item.is c.in_ok-do_line.ensures.done in
+    let done = subst (λ line. IsLineDone g.T.TreeDisk.disk g.T.TreeDisk.counts line before after) c.line-item.is
+    c.in_ok-do_line.ensures.done in
     record {
-      done = next-line g.T.TreeDisk.disk g.T.TreeDisk.counts None lines c.loop-line.line-index c.line-item.result c.args.book.now before after c.loop-line-test.true c.loop-line.invariant.done done;
-      few = let one = few-more g.T.TreeDisk.disk g.T.TreeDisk.counts c.line-item.result before after c.in_ok-do_line.ensures.done in let few = c.loop-line.invariant.few in omega (arith, one, few);
+      done =
+          next-line g.T.TreeDisk.disk g.T.TreeDisk.counts None lines c.loop-line.line-index c.line-item.result
+          c.args.book.now before after c.loop-line-test.true c.loop-line.invariant.done done;
+      few =
+          let one = few-more g.T.TreeDisk.disk g.T.TreeDisk.counts c.line-item.result before after
+          c.in_ok-do_line.ensures.done in let few = c.loop-line.invariant.few in omega (arith, one, few);
     }

@@ -15,7 +15,8 @@ read_place-requires g c =
     let places = c.as_slice-place-items.result.now in
     let listed : places ≡ map.keys tree = c.as_slice-place-items.ensures.value ∙ c.in_ok-places.ensures.listed in
     let there = place_there tree places c.loop-place.place-index (De 0) listed c.loop-place-test.true in
-    subst (λ disk. IsSome (map.get (view disk) (get_or places c.loop-place.place-index (De 0)))) (sym c.loop-place.invariant.looked.same_disk) there
+    subst (λ disk. IsSome (map.get (view disk) (get_or places c.loop-place.place-index (De 0))))
+    (sym c.loop-place.invariant.looked.same_disk) there
 
 pub loop-place-preserved : goal.loop-place-preserved
 loop-place-preserved g c =
@@ -24,21 +25,30 @@ loop-place-preserved g c =
     let listed : places ≡ map.keys tree = c.as_slice-place-items.ensures.value ∙ c.in_ok-places.ensures.listed in
     record {
       read = dir_read tree places c.loop-place.place-index (De 0) c.in_ok-dir.dir _ _ listed c.loop-place-test.true
-          (ap (λ disk. map.get (view disk) (get_or places c.loop-place.place-index (De 0))) (sym c.loop-place.invariant.looked.same_disk) ∙ c.in_ok-dir.ensures.found)
+          (ap (λ disk. map.get (view disk) (get_or places c.loop-place.place-index (De 0)))
+          (sym c.loop-place.invariant.looked.same_disk) ∙ c.in_ok-dir.ensures.found)
           c.loop-place.invariant.read c.in_ok-push_dir.ensures;
       looked = search rules;
-      looks = subst (λ count. AreAnswered (suc count) (g.T.TreeDisk.counts c.args.book.now.tree) (g.T.TreeDisk.counts c.read_place.new.self.tree)) (sym (add-one c.loop-place.place-index))
-          (g.T.TreeDisk.counts c.loop-place.book.tree, c.loop-place.invariant.looks, answered_look _ _ c.in_ok-dir.dir (Ok c.in_ok-dir.dir) refl c.in_ok-dir.ensures.counted);
+      looks =
+          subst (λ count. AreAnswered (suc count) (g.T.TreeDisk.counts c.args.book.now.tree)
+          (g.T.TreeDisk.counts c.read_place.new.self.tree)) (sym (add-one c.loop-place.place-index)) (
+            g.T.TreeDisk.counts c.loop-place.book.tree,
+            c.loop-place.invariant.looks,
+            answered_look _ _ c.in_ok-dir.dir (Ok c.in_ok-dir.dir) refl c.in_ok-dir.ensures.counted,
+          );
       whole = search rules;
     }
 
 pub returns-in_err-dir-clause-failed : goal.returns-in_err-dir-clause-failed
 returns-in_err-dir-clause-failed g c = λ failed.
-    let listed : c.as_slice-place-items.result.now ≡ map.keys (view (g.T.TreeDisk.disk c.args.book.now.tree)) = c.as_slice-place-items.ensures.value ∙ c.in_ok-places.ensures.listed in
+    let listed : c.as_slice-place-items.result.now ≡ map.keys (view (g.T.TreeDisk.disk c.args.book.now.tree)) =
+    c.as_slice-place-items.ensures.value ∙ c.in_ok-places.ensures.listed in
     let is : c.read_place.result ≡ Err Failed = search rules in
     record {
       answered = suc c.loop-place.place-index;
-      wanted = look_wanted (view (g.T.TreeDisk.disk c.args.book.now.tree)) c.as_slice-place-items.result.now c.loop-place.place-index listed c.loop-place-test.true;
+      wanted =
+          look_wanted (view (g.T.TreeDisk.disk c.args.book.now.tree)) c.as_slice-place-items.result.now
+          c.loop-place.place-index listed c.loop-place-test.true;
       reached = g.T.TreeDisk.counts c.loop-place.book.tree;
       looks = c.loop-place.invariant.looks;
       failed = failed_look _ _ c.read_place.result is c.read_place.ensures.counted;

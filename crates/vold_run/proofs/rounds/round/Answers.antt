@@ -3,7 +3,8 @@ use Rattle.std.specs.Prelude.{Some}
 use Rattle.vold_book.specs.Whole.{turns_left}
 use Rattle.vold_run.specs.Fits.{history_of}
 use Rattle.vold_run.proofs.Kept.{turn-kept, kept-joined}
-use Rattle.vold_run.proofs.Turned.{RoundGoes, went, went-falls, waited, all-wait, round-begins, round-goes, round-ends, round-waits}
+use Rattle.vold_run.proofs.Turned.{RoundGoes, went, went-falls, waited, all-wait}
+use Rattle.vold_run.proofs.Turned.{round-begins, round-goes, round-ends, round-waits}
 use Rattle.vold_run.proofs.rounds.round.Goals as goal
 
 pub returns-in_default : goal.returns-in_default
@@ -13,8 +14,12 @@ returns-in_default g c =
     let turn = c.in_ok-advance.field-0 in
     let answers = c.in_ok-advance.ensures.turn in
     record {
-      ended = all-wait g.T.TreeDisk.disk g.T.TreeDisk.counts before after c.args.first turn c.in_default.not-Went c.requires.first answers;
-      kept = turn-kept g.T.TreeDisk.disk g.T.TreeDisk.counts before after c.args.first turn c.requires.between answers c.in_ok-advance.ensures.whole;
+      ended =
+          all-wait g.T.TreeDisk.disk g.T.TreeDisk.counts before after c.args.first turn c.in_default.not-Went
+          c.requires.first answers;
+      kept =
+          turn-kept g.T.TreeDisk.disk g.T.TreeDisk.counts before after c.args.first turn c.requires.between answers
+          c.in_ok-advance.ensures.whole;
       whole = search rules;
     }
 
@@ -29,8 +34,12 @@ loop-next-init g c =
     let goes = went disk counts before after c.args.first turn c.in-Went.is answers in
     record {
       falls = went-falls disk counts before after turn c.in-Went.is c.in_ok-advance.ensures.falls;
-      kept = turn-kept disk counts before after c.args.first turn c.requires.between answers c.in_ok-advance.ensures.whole;
-      goes = round-begins disk counts before after c.args.first c.next_busy-next.result c.requires.between c.requires.first goes c.next_busy-next.ensures.busy;
+      kept =
+          turn-kept disk counts before after c.args.first turn c.requires.between answers
+          c.in_ok-advance.ensures.whole;
+      goes =
+          round-begins disk counts before after c.args.first c.next_busy-next.result c.requires.between
+          c.requires.first goes c.next_busy-next.ensures.busy;
     }
 
 pub returns-in_default-2 : goal.returns-in_default-2
@@ -43,13 +52,20 @@ returns-in_default-2 g c =
     let turn = c.in_ok-advance-2.field-0 in
     let answers = c.in_ok-advance-2.ensures.turn in
     let kept = c.loop-next.invariant.kept in
-    let going : RoundGoes (history_of start) before (Some c.in-Some.actor) = subst (RoundGoes (history_of start) before) c.in-Some.is c.loop-next.invariant.goes in
+    let going : RoundGoes (history_of start) before (Some c.in-Some.actor) =
+    subst (RoundGoes (history_of start) before) c.in-Some.is c.loop-next.invariant.goes in
     record {
       ended = (
-        round-waits disk counts (history_of start) before after c.in-Some.actor turn c.in_default-2.not-Went going kept.between answers,
-        subst (λ book. turns_left disk book < turns_left disk start) (sym (waited disk counts before after c.in-Some.actor turn c.in_default-2.not-Went going.coming.0 answers).1) c.loop-next.invariant.falls,
+        round-waits disk counts
+            (history_of start) before after c.in-Some.actor turn c.in_default-2.not-Went going kept.between answers,
+        subst (λ book. turns_left disk book < turns_left disk start)
+            (sym (waited disk counts before after c.in-Some.actor turn c.in_default-2.not-Went going.coming.0
+            answers).1) c.loop-next.invariant.falls,
       );
-      kept = kept-joined disk counts start before after kept (turn-kept disk counts before after c.in-Some.actor turn kept.between answers c.in_ok-advance-2.ensures.whole);
+      kept =
+          kept-joined disk counts start before after kept
+          (turn-kept disk counts before after c.in-Some.actor turn kept.between answers
+          c.in_ok-advance-2.ensures.whole);
       whole = search rules;
     }
 
@@ -63,15 +79,27 @@ loop-next-preserved g c =
     let turn = c.in_ok-advance-2.field-0 in
     let answers = c.in_ok-advance-2.ensures.turn in
     let kept = c.loop-next.invariant.kept in
-    let going : RoundGoes (history_of start) before (Some c.in-Some.actor) = subst (RoundGoes (history_of start) before) c.in-Some.is c.loop-next.invariant.goes in
+    let going : RoundGoes (history_of start) before (Some c.in-Some.actor) =
+    subst (RoundGoes (history_of start) before) c.in-Some.is c.loop-next.invariant.goes in
     let goes = went disk counts before after c.in-Some.actor turn c.in-Went-2.is answers in
     record {
-      falls = let less = went-falls disk counts before after turn c.in-Went-2.is c.in_ok-advance-2.ensures.falls in let already = c.loop-next.invariant.falls in omega (arith, less, already);
-      kept = kept-joined disk counts start before after kept (turn-kept disk counts before after c.in-Some.actor turn kept.between answers c.in_ok-advance-2.ensures.whole);
-      goes = round-goes disk counts (history_of start) before after c.in-Some.actor c.next_busy-next-in-Some.result going kept.between goes c.next_busy-next-in-Some.ensures.busy;
+      falls =
+          let less = went-falls disk counts before after turn c.in-Went-2.is c.in_ok-advance-2.ensures.falls in
+          let already = c.loop-next.invariant.falls in omega (arith, less, already);
+      kept =
+          kept-joined disk counts start before after kept
+          (turn-kept disk counts before after c.in-Some.actor turn kept.between answers
+          c.in_ok-advance-2.ensures.whole);
+      goes =
+          round-goes disk counts (history_of start) before after c.in-Some.actor c.next_busy-next-in-Some.result going
+          kept.between goes c.next_busy-next-in-Some.ensures.busy;
     }
 
 pub returns-clause-ended : goal.returns-clause-ended
 returns-clause-ended g c =
-    let going = subst (RoundGoes (history_of c.args.book.now) c.loop-next.book) c.in_default-next.is c.loop-next.invariant.goes in
-    (round-ends g.T.TreeDisk.disk g.T.TreeDisk.counts (history_of c.args.book.now) c.loop-next.book going c.loop-next.invariant.kept.between, c.loop-next.invariant.falls)
+    let going = subst
+    (RoundGoes (history_of c.args.book.now) c.loop-next.book) c.in_default-next.is c.loop-next.invariant.goes in (
+      round-ends g.T.TreeDisk.disk g.T.TreeDisk.counts (history_of c.args.book.now) c.loop-next.book going
+          c.loop-next.invariant.kept.between,
+      c.loop-next.invariant.falls,
+    )

@@ -14,6 +14,12 @@ loop-preserved g c =
     let kept = c.loop.invariant.kept in
     record {
       within = grind (arith);
-      turns = turns-more c.args.actor c.loop.counter (history_of c.args.book.now) (history_of before) (history_of after) c.loop.invariant.turns (may-turn disk counts before after c.args.actor c.in_ok-advance.field-0 kept.between answers);
-      kept = kept-joined disk counts c.args.book.now before after kept (turn-kept disk counts before after c.args.actor c.in_ok-advance.field-0 kept.between answers c.in_ok-advance.ensures.whole);
+      turns =
+          turns-more c.args.actor c.loop.counter (history_of c.args.book.now) (history_of before)
+          (history_of after) c.loop.invariant.turns
+          (may-turn disk counts before after c.args.actor c.in_ok-advance.field-0 kept.between answers);
+      kept =
+          kept-joined disk counts c.args.book.now before after kept
+          (turn-kept disk counts before after c.args.actor c.in_ok-advance.field-0 kept.between answers
+          c.in_ok-advance.ensures.whole);
     }

@@ -3,8 +3,13 @@ use Rattle.vold_run.proofs.Done.{shown_is_done, fresh-between}
 use Rattle.vold_run.proofs.runs.done.Goals as goal
 
 pub do_lines-requires-clause-between : goal.do_lines-requires-clause-between
-do_lines-requires-clause-between g c = fresh-between g.T.TreeDisk.disk g.T.TreeDisk.counts c.args.book.now c.args.lines.now c.requires.whole c.requires.fresh
+do_lines-requires-clause-between g c =
+    fresh-between g.T.TreeDisk.disk g.T.TreeDisk.counts c.args.book.now c.args.lines.now
+    c.requires.whole c.requires.fresh
 
 pub returns-clause-done : goal.returns-clause-done
 returns-clause-done g c =
-    IfOk-weaker c.show.result _ _ (shown_is_done g.T.TreeDisk.disk g.T.TreeDisk.counts c.args.book.now c.args.lines.now c.do_lines.new.book c.show.new.book c.requires.fresh c.in_ok-do_lines.ensures.done c.show.ensures.whole c.show.ensures.looked) c.show.ensures.shown
+    IfOk-weaker c.show.result _ _
+    (shown_is_done g.T.TreeDisk.disk g.T.TreeDisk.counts c.args.book.now c.args.lines.now c.do_lines.new.book
+    c.show.new.book c.requires.fresh c.in_ok-do_lines.ensures.done c.show.ensures.whole c.show.ensures.looked)
+    c.show.ensures.shown

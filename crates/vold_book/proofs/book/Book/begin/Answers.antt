@@ -43,8 +43,8 @@ begun g c =
     (docket_of actor_cmp c.begin.new.self) c.in_ok-begin.ensures.begun c.first-number.ensures.first
     (c.command.ensures ∙ ap Some (sym c.in_ok-command.ensures)) c.boot.ensures c.begun.ensures
     (subst (λ b. FirstTask c.in_ok-command.command (record { boot = c.boot.result; index = c.begun.result })
-    (refusal_of c.in_ok-command.command (facts_in b c.in_ok-command.command)) c.first_task-task.result) (sym c.self.view_is)
-    c.first_task-task.ensures)
+    (refusal_of c.in_ok-command.command (facts_in b c.in_ok-command.command)) c.first_task-task.result)
+    (sym c.self.view_is) c.first_task-task.ensures)
     c.in_ok-reserve.ensures.same c.enter.ensures
 
 pub invariant_of-self-2 : goal.invariant_of-self-2

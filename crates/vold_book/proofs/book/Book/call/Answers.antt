@@ -16,9 +16,10 @@ use Rattle.vold_book.proofs.book.Book.call.Goals as goal
 
 pub make-requires-clause-fits : goal.make-requires-clause-fits
 make-requires-clause-fits g c =
-    plan-fits g.T.TreeDisk.disk g.T.TreeDisk.counts _ c.self.invariant c.args.actor c.args.it c.args.call c.args.change c.args.then
-    (subst (λ b. Plans (seen g.T.TreeDisk.disk g.T.TreeDisk.counts b) c.args.actor c.args.it (CallNext c.args.call c.args.change c.args.then))
-    (sym c.self.view_is) c.requires)
+    plan-fits g.T.TreeDisk.disk g.T.TreeDisk.counts _ c.self.invariant c.args.actor c.args.it c.args.call
+    c.args.change c.args.then
+    (subst (λ b. Plans (seen g.T.TreeDisk.disk g.T.TreeDisk.counts b) c.args.actor c.args.it
+    (CallNext c.args.call c.args.change c.args.then)) (sym c.self.view_is) c.requires)
 
 pub note-requires-2-clause-few : goal.note-requires-2-clause-few
 note-requires-2-clause-few g c =
@@ -48,25 +49,29 @@ after g c = book_of (record {
   places = c.make.new.places;
 })
 
-called : (g : Over) (c : goal.Joined-call-9 g) → Makes g.T.TreeDisk.disk g.T.TreeDisk.counts (before g c) (after g c) c.args.actor
+called : (g : Over) (c : goal.Joined-call-9 g)
+    → Makes g.T.TreeDisk.disk g.T.TreeDisk.counts (before g c) (after g c) c.args.actor
     c.args.it.number c.args.call c.args.change c.args.then
 called g c =
     let places = held place_cmp c.make.new.places in
-    called-book g.T.TreeDisk.disk g.T.TreeDisk.counts (before g c) c.args.actor c.args.it.number c.args.call c.args.change
+    called-book g.T.TreeDisk.disk g.T.TreeDisk.counts
+    (before g c) c.args.actor c.args.it.number c.args.call c.args.change
     c.args.then (record { tree = c.make.new.tree; places = places; made = c.in_ok-made.made }) c.reserve.new.self.now
     c.note.new.self.now c.made_entry-entry.result c.reserve-2.new.self.now c.note-2.new.self.now c.is_some.result
     c.task_after.result (docket_of actor_cmp c.set.new.self)
-    (subst (λ known. IsMade (g.T.TreeDisk.disk c.self.inside.tree) (g.T.TreeDisk.disk c.make.new.tree) known places c.args.call
+    (subst (λ known. IsMade (g.T.TreeDisk.disk c.self.inside.tree)
+    (g.T.TreeDisk.disk c.make.new.tree) known places c.args.call
     (Ok c.in_ok-made.made)) c.in_ok-reserve-3.ensures.held c.in_ok-made.ensures.made) c.in_ok-made.ensures.counted
-    c.in_ok-reserve.ensures.same c.note.ensures c.made_entry-entry.ensures c.in_ok-reserve-2.ensures.same c.note-2.ensures
+    c.in_ok-reserve.ensures.same c.note.ensures c.made_entry-entry.ensures
+    c.in_ok-reserve-2.ensures.same c.note-2.ensures
     c.is_some.ensures c.set.ensures c.task_after.ensures
 
 pub invariant_of-self-2 : goal.invariant_of-self-2
 invariant_of-self-2 g c =
     calls-whole g.T.TreeDisk.disk g.T.TreeDisk.counts (before g c) c.self.invariant c.args.actor c.args.it c.args.call
     c.args.change c.args.then
-    (subst (λ b. Plans (seen g.T.TreeDisk.disk g.T.TreeDisk.counts b) c.args.actor c.args.it (CallNext c.args.call c.args.change c.args.then))
-    (sym c.self.view_is) c.requires) (after g c) (called g c)
+    (subst (λ b. Plans (seen g.T.TreeDisk.disk g.T.TreeDisk.counts b) c.args.actor c.args.it
+    (CallNext c.args.call c.args.change c.args.then)) (sym c.self.view_is) c.requires) (after g c) (called g c)
 
 pub returns-clause-called : goal.returns-clause-called
 returns-clause-called g c =

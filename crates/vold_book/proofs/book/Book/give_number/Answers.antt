@@ -5,9 +5,10 @@ use Rattle.vold_book.proofs.book.Book.give_number.Goals as goal
 
 pub invariant_of-self : goal.invariant_of-self
 invariant_of-self g c =
-    enqueued-whole g.T.TreeDisk.disk g.T.TreeDisk.counts _ c.self.invariant c.args.command c.actor.result _ c.enqueue.result
-    (subst (λ b. length b.docket.commands < max_commands) (sym c.self.view_is) c.requires) c.actor.ensures c.enqueue.ensures.queued
-    c.enqueue.ensures.refused
+    enqueued-whole g.T.TreeDisk.disk g.T.TreeDisk.counts _ c.self.invariant c.args.command
+    c.actor.result _ c.enqueue.result
+    (subst (λ b. length b.docket.commands < max_commands) (sym c.self.view_is) c.requires)
+    c.actor.ensures c.enqueue.ensures.queued c.enqueue.ensures.refused
 
 pub returns-clause-whole : goal.returns-clause-whole
 returns-clause-whole g c = invariant_of-self g c

@@ -13,7 +13,8 @@ use Rattle.vold_book.proofs.book.Book.planned.Goals as goal
 
 pub returns-in_ok-next-in-User-clause-plans : goal.returns-in_ok-next-in-User-clause-plans
 returns-in_ok-next-in-User-clause-plans g c =
-    subst (λ next. Plans (seen g.T.TreeDisk.disk g.T.TreeDisk.counts c.args.self.now) c.args.actor c.args.it next) (sym c.as_user.ensures)
+    subst (λ next. Plans (seen g.T.TreeDisk.disk g.T.TreeDisk.counts c.args.self.now) c.args.actor c.args.it next)
+    (sym c.as_user.ensures)
     (subst (λ b. Plans (seen g.T.TreeDisk.disk g.T.TreeDisk.counts b) c.args.actor c.args.it
     (as_user c.in_ok-next-in-User.field-0)) c.self.view_is
     (planned-user _ c.self.invariant c.args.actor c.args.it
@@ -26,7 +27,8 @@ returns-in_ok-next-in-User-clause-plans g c =
 
 pub returns-in-Recovery-clause-plans : goal.returns-in-Recovery-clause-plans
 returns-in-Recovery-clause-plans g c =
-    subst (λ next. Plans (seen g.T.TreeDisk.disk g.T.TreeDisk.counts c.args.self.now) c.args.actor c.args.it next) (sym c.as_recovery.ensures)
+    subst (λ next. Plans (seen g.T.TreeDisk.disk g.T.TreeDisk.counts c.args.self.now) c.args.actor c.args.it next)
+    (sym c.as_recovery.ensures)
     (subst (λ b. Plans (seen g.T.TreeDisk.disk g.T.TreeDisk.counts b) c.args.actor c.args.it
     (as_recovery c.next-in-Recovery.result)) c.self.view_is
     (planned-recovery _ c.self.invariant c.args.actor c.args.it

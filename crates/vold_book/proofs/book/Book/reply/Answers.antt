@@ -39,7 +39,8 @@ replied g c =
 
 pub invariant_of-self-2 : goal.invariant_of-self-2
 invariant_of-self-2 g c =
-    replies-whole g.T.TreeDisk.disk g.T.TreeDisk.counts (before g c) c.self.invariant c.args.actor c.args.it c.args.reply
+    replies-whole g.T.TreeDisk.disk g.T.TreeDisk.counts
+    (before g c) c.self.invariant c.args.actor c.args.it c.args.reply
     (subst (λ b. Plans (seen g.T.TreeDisk.disk g.T.TreeDisk.counts b) c.args.actor c.args.it (ReplyNext c.args.reply))
     (sym c.self.view_is) c.requires) (after g c) (replied g c)
 

@@ -34,7 +34,8 @@ after g c = book_of (record {
 restarted : (g : Over) (c : goal.After-enter g)
     → IsRestarted g.T.TreeDisk.disk g.T.TreeDisk.counts (before g c) (after g c) c.args.level
 restarted g c =
-    restarted-book g.T.TreeDisk.disk g.T.TreeDisk.counts (before g c) c.restart.new.self c.args.level c.boot-boot.result
+    restarted-book g.T.TreeDisk.disk g.T.TreeDisk.counts
+    (before g c) c.restart.new.self c.args.level c.boot-boot.result
     c.reserve.new.self.now c.enter.new.self.now (docket_of actor_cmp c.enqueue_first.new.self)
     (docket_of actor_cmp c.restart-2.new.self) c.restart-3.new.self.now c.restart.ensures.same c.restart.ensures.counts
     c.boot-boot.ensures c.in_ok-reserve.ensures.same c.enter.ensures c.in_ok-number.ensures.queued c.restart-2.ensures

@@ -41,7 +41,8 @@ stopped g c =
     stopped-book g.T.TreeDisk.disk g.T.TreeDisk.counts (before g c) c.self.invariant c.stop.new.self c.args.cut
     c.survivors-kept.result c.reserve.new.self.now c.order.new.self.now c.in_ok-duplicate.field-0
     (docket_of actor_cmp c.stop-2.new.self) c.stop-3.new.self.now c.stop.ensures.stopped c.stop.ensures.counts
-    c.survivors-kept.ensures c.in_ok-reserve.ensures.same c.in_ok-duplicate.ensures c.order.ensures c.stop-2.ensures c.stop-3.ensures
+    c.survivors-kept.ensures c.in_ok-reserve.ensures.same c.in_ok-duplicate.ensures c.order.ensures
+    c.stop-2.ensures c.stop-3.ensures
 
 pub invariant_of-self-2 : goal.invariant_of-self-2
 invariant_of-self-2 g c =
