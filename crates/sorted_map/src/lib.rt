@@ -63,11 +63,12 @@ impl<K: Ord + ExactOrd + Copy, V> SortedMap<K, V> {
         SortedMap { keys, values }
     }
 
-    /// Takes every key out.
+    /// Takes every key out, and keeps the room.
     pub fn clear(&mut self)
     where
         V: Drop,
-        ensures { held K.cmp self.new ≡ map.empty }
+        ensures held { held K.cmp self.new ≡ map.empty }
+        ensures room { self.old.room ≤ self.new.room }
     {
         self.keys.clear();
         self.values.clear();

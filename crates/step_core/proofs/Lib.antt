@@ -1,4 +1,4 @@
-pub mod Emptied
 pub mod Marks
 pub mod Named
 pub mod Tables
+pub mod Unmarked

@@ -1,4 +1,4 @@
-ghost use Rattle.std.specs.Prelude.{◌≡◌, ◌<◌, ◌≤◌, ◌⊎◌, ◌↔◌, IsTrue, IsSome, OnOk, OnErr, max};
+ghost use Rattle.std.specs.Prelude.{◌≡◌, ◌<◌, ◌⊎◌, ◌↔◌, IsTrue, IsSome, OnOk, OnErr, max};
 ghost use Rattle.std.specs.FinMap as map;
 ghost use Rattle.std.specs.FinSet as set;
 ghost use Rattle.sorted_map.specs.Maps.{held};
@@ -101,7 +101,7 @@ impl Table {
     pub fn clear(&mut self)
         ensures { self.new ≡ without_places self.old }
     {
-        remove_all(&mut self.rows);
+        self.rows.clear();
     }
 
     /// Marks the `De` place of a user, which is there.
@@ -175,16 +175,6 @@ impl Table {
         ensures { result.now ≡ map.keys self.now.places }
     {
         self.rows.keys()
-    }
-}
-
-/// Takes every row out and keeps the room.
-fn remove_all(rows: &mut SortedMap<Place, Known>)
-    ensures empty { held place_cmp rows.new ≡ map.empty }
-    ensures room { rows.old.room ≤ rows.new.room }
-{
-    while let Some(place) = rows.keys().last().copied() {
-        rows.remove(place);
     }
 }
 

@@ -187,7 +187,7 @@ impl<T: TreeDisk> Book<T> {
         ensures step { IsStep self.now actor result }
         ensures whole { IsWhole T.disk T.counts self.now }
     {
-        match self.docket.running(actor) {
+        match self.docket.running(actor).copied() {
             Some(it) => Step::GoOn(it),
             None if !self.docket.is_waiting(actor) => Step::Idle,
             None if self.tracker.phase().takes(actor) => Step::Begin,

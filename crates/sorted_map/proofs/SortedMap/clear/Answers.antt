@@ -6,5 +6,5 @@ invariant_of-self g c =
     nothing-aligned g.K.Ord.cmp c.clear.new.self.items c.clear-2.new.self.items
     c.clear.ensures.items c.clear-2.ensures.items
 
-pub returns : goal.returns
-returns g c = nothing-held g.K.Ord.cmp _ c.clear-2.new.self.items c.clear.ensures.items
+pub returns-clause-held : goal.returns-clause-held
+returns-clause-held g c = nothing-held g.K.Ord.cmp _ c.clear-2.new.self.items c.clear.ensures.items

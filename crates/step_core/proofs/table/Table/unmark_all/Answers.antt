@@ -3,7 +3,7 @@ use Rattle.std.specs.FinSet as set
 use Rattle.sorted_map.specs.Maps.{held}
 use Rattle.tree_model.specs.Order.{place_cmp}
 use Rattle.step_core.specs.Table.{TableState}
-use Rattle.step_core.proofs.Emptied.{there-listed, unmarking-within, unmarking-next, unmarking-goes, unmarking-ends}
+use Rattle.step_core.proofs.Unmarked.{there-listed, unmarking-within, unmarking-next, unmarking-goes, unmarking-ends}
 use Rattle.step_core.proofs.Tables.{table_of, table-unmarked}
 use Rattle.step_core.proofs.table.Table.unmark_all.Goals as goal
 

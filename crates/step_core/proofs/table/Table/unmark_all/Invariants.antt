@@ -1,7 +1,7 @@
 use Rattle.std.proofs.Common.{◌≡◌}
 use Rattle.sorted_map.specs.Maps.{held}
 use Rattle.tree_model.specs.Order.{place_cmp}
-use Rattle.step_core.proofs.Emptied.{Unmarking}
+use Rattle.step_core.proofs.Unmarked.{Unmarking}
 use Rattle.step_core.proofs.table.Table.unmark_all.Given as goal
 
 abbrev pub invariant-loop-i : goal.invariant-loop-i

@@ -64,7 +64,7 @@ called g c =
     (Ok c.in_ok-made.made)) c.in_ok-reserve-3.ensures.held c.in_ok-made.ensures.made) c.in_ok-made.ensures.counted
     c.in_ok-reserve.ensures.same c.note.ensures c.made_entry-entry.ensures
     c.in_ok-reserve-2.ensures.same c.note-2.ensures
-    c.is_some.ensures c.set.ensures c.task_after.ensures
+    c.is_some.ensures c.set.ensures.runs c.task_after.ensures
 
 pub invariant_of-self-2 : goal.invariant_of-self-2
 invariant_of-self-2 g c =

@@ -1,17 +1,16 @@
--- Loops over a table: the last place is taken out until there is none, and each place is unmarked in turn.
-use Rattle.std.proofs.Common.{◌≡◌, ℕ, zero, suc, ◌+◌, ◌-◌, ◌<◌, ◌≤◌, true, false, cond, List, [], ◌∷◌, length, get_or}
+-- A loop over a table in which each place is unmarked in turn.
+use Rattle.std.proofs.Common.{◌≡◌, ℕ, zero, suc, ◌+◌, ◌<◌, ◌≤◌, true, false, List, [], ◌∷◌, length, get_or}
 use Rattle.std.proofs.Common.{refl, sym, ap, ◌∙◌, subst, inl, inr, arith}
-use Rattle.std.specs.Prelude.{Option, Some, None, is_some, unwrap_or, ◌||◌, IfSome, IfNone, slice_get}
+use Rattle.std.specs.Prelude.{Some, None, is_some, unwrap_or, ◌||◌, slice_get}
 use Rattle.std.specs.List.{list_any}
 use Rattle.std.specs.Ordering.{eq_by_cmp}
 use Rattle.std.specs.FinMap as map
 use Rattle.std.proofs.lemmas.Bool.{false≢true, cases_order}
 use Rattle.std.proofs.lemmas.List.{length-map}
-use Rattle.std.proofs.lemmas.Option.{slice_get_within, slice_get-get_or}
+use Rattle.std.proofs.lemmas.Option.{slice_get-get_or}
 use Rattle.tree_model.specs.declared.places.Place.{Place}
 use Rattle.tree_model.specs.Order.{place_cmp, place_total, place_exact}
 use Rattle.tree_model.proofs.Maps.{decide_key, tied, apart}
-use Rattle.step_core.specs.declared.table.Known.{Known}
 use Rattle.step_core.specs.Known.{KnownPlaces, places_of, is_marked, Unmarks}
 use Rattle.step_core.proofs.Named.{keys-places_of}
 
@@ -55,33 +54,6 @@ length-keys known = length-map (map.entries known) _ ∙ sym (map.len-entries kn
 pub there-listed : (known : KnownPlaces) (i : ℕ) (place : Place) → slice_get (map.keys known) i ≡ Some place
     → is_some (map.get known place) ≡ true
 there-listed known i place is = map.contains_key-keys known place ∙ any-listed (map.keys known) i place is
-
--- one place fewer
-pub len-removed : (known after : KnownPlaces) (i : ℕ) (place : Place) → slice_get (map.keys known) i ≡ Some place
-    → after ≡ map.remove known place → map.len after < map.len known
-len-removed known after i place is removed = omega (
-  arith,
-  ap map.len removed ∙ map.len-remove place_total known place
-      ∙ ap (λ there. cond there (map.len known - 1) (map.len known)) (there-listed known i place is),
-  slice_get_within (map.keys known) i place is,
-  length-keys known,
-)
-
--- and as much room or more
-pub room-removed : (taken : Option Known) (least before after : ℕ) → IfSome taken (λ _. after ≡ before + 1)
-    → IfNone taken (after ≡ before) → least ≤ before → least ≤ after
-room-removed None least before after more same low = omega (arith, same, low)
-room-removed (Some of_place) least before after more same low = omega (arith, more, low)
-
-no_last : (places : List Place) → slice_get places (length places - 1) ≡ None → length places ≡ 0
-no_last [] none = refl
-no_last (first ∷ places) none =
-    absurd (some _ (sym none ∙ slice_get-get_or (first ∷ places) (length (first ∷ places) - 1) first (omega arith)))
-
--- where there is no last place there is none
-pub no_last-empty : (known : KnownPlaces) → slice_get (map.keys known) (length (map.keys known) - 1) ≡ None
-    → known ≡ map.empty
-no_last-empty known none = map.empty_of_len known (sym (length-keys known) ∙ no_last (map.keys known) none)
 
 -- the first i places are unmarked
 pub record Unmarking (before now : KnownPlaces) (i : ℕ) : Type 0 where
