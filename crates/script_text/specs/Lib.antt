@@ -1,6 +1,7 @@
 pub mod Arguments
 pub mod Forms
 pub mod Journal
+pub mod Keystore
 pub mod Reading
 pub mod Script
 pub mod Shown

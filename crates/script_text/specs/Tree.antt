@@ -1,7 +1,10 @@
 -- A tree of directories as text: a line that counts them, then each with its files.
-use Rattle.std.specs.Prelude.{ℕ, List, [], ◌∷◌, ◌++◌, length, codes, Option, Some, None}
+use Rattle.std.specs.Prelude.{ℕ, List, [], ◌∷◌, ◌++◌, length, take, codes, Option, Some, None, nat_lt}
+use Rattle.std.specs.Prelude.{if◌then◌else◌}
 use Rattle.std.specs.List.{flat_map}
 use Rattle.std.specs.FinMap as map
+use Rattle.hex.specs.Hex.{encode_lower}
+use Rattle.sha2.specs.Sha512.{sha512}
 use Rattle.tree_model.specs.declared.files.FileName.{FileName}
 use Rattle.tree_model.specs.declared.files.FileName.TheVariants.{Version, EncryptedKey, Blob, BlobUpgraded}
 use Rattle.tree_model.specs.declared.files.FileName.TheVariants.{BlobNew, Discard, Stretching, Salt}
@@ -37,9 +40,17 @@ file_word Discard = codes "secdiscardable"
 file_word Stretching = codes "stretching"
 file_word Salt = codes "salt"
 
+-- bytes by their hash: the first 8 bytes of their SHA-512 (FIPS 180-4, 6.4)
+abbrev pub hash_word : List ℕ → List ℕ
+hash_word bytes = codes "#" ++ encode_lower (take 8 (sha512 bytes))
+
+-- what a file's bytes are printed as: more than 128 of them as their hash
+abbrev pub content_word : List ℕ → List ℕ
+content_word bytes = if nat_lt 128 (length bytes) then hash_word bytes else bytes_word bytes
+
 -- a file's name, its length and its bytes
 abbrev pub file_line : FileName × List ℕ → List ℕ
-file_line file = line_of (codes "file" ∷ file_word file.0 ∷ decimal (length file.1) ∷ bytes_word file.1 ∷ [])
+file_line file = line_of (codes "file" ∷ file_word file.0 ∷ decimal (length file.1) ∷ content_word file.1 ∷ [])
 
 -- a directory's place, then its files in order of their names
 abbrev pub dir_text : Place × Files → List ℕ

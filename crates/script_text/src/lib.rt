@@ -1,5 +1,5 @@
-//! The texts of a run: the script that it reads, the journal and the tree that it prints, and the status that it ends
-//! with.
+//! The texts of a run: the script that it reads, the journal, the tree and the keystore that it prints, and the status
+//! that it ends with.
 #![tactic(auto)]
 
 mod appending;
@@ -8,6 +8,7 @@ pub mod byte_words;
 mod fills;
 mod forms;
 pub mod journal_lines;
+pub mod keystore_lines;
 pub mod numbers;
 mod reading;
 pub mod script;
@@ -18,6 +19,7 @@ pub mod tree_lines;
 
 pub use byte_words::bytes_of;
 pub use journal_lines::print_journal;
+pub use keystore_lines::{EntryRow, print_keystore};
 pub use numbers::number_of;
 pub use script::{Line, Script, one_reading, read_script};
 pub use script_lines::print_script;

@@ -1,11 +1,13 @@
 //! Texts that are printed and read, against texts from outside.
 use crate::{
-    Line, Script, Status, bytes_of, number_of, print_journal, print_script, print_tree, read_script,
+    EntryRow, Line, Script, Status, bytes_of, number_of, print_journal, print_keystore,
+    print_script, print_tree, read_script,
 };
 use journal_model::{Actor, Birth, Change, Command, Entry, Reply};
+use keystore_model::Tag;
 use std::alloc::Global;
 use std::test::Fail;
-use tree_model::{Bytes, Cut, Dir, FileName, NoMemory, Place, Slot};
+use tree_model::{Blob, Bytes, Class, Cut, Dir, FileName, NoMemory, Place, Slot};
 
 const CREATED_JOURNAL: &[u8] =
     b"journal 6\nbegan 0 10 create 10\nsynced\nsynced\nchanged 0 create 10 0 0\nsynced\nreplied 0 ok\n";
@@ -26,6 +28,13 @@ const EVERY_NAME: &[u8] =
      file keymaster_key_blob 1 0a\nfile keymaster_key_blob_upgraded 1 0b\n\
      file keymaster_key_blob_new 1 0c\nfile secdiscardable 1 0d\nfile stretching 0 -\nfile salt 1 0f\n\
      dir ce/7/current\ndir ce/7/cx0000000012\ndir tmp/4294967295\n";
+
+/// A file of 129 zeros.
+const LONG_FILE: &[u8] = b"tree 1\ndir de/0\nfile secdiscardable 129 #b1f542f68a48608a\n";
+
+const KEYSTORE: &[u8] =
+    b"keystore 2 2\nentry 0100000000000000000000000000000000000000000000000000000000000000 1 10 de\n\
+     entry abababababababababababababababababababababababababababababababab 2 4294967295 ce\n";
 
 /// The most fills, the first with the most bytes.
 const FULL_STOP: &[u8] =
@@ -151,6 +160,38 @@ fn prints_every_name(rt: HostRuntime) -> Result<(), Fail> {
     let tree = print_tree(rt.alloc(), b"later", dirs.as_slice(), Some(3))?;
     assert_eq!(rt; tree.as_slice(), EVERY_NAME);
     Ok(())
+}
+
+#[test]
+fn prints_a_long_file(rt: HostRuntime) -> Result<(), Fail> {
+    let mut dir = Dir::new();
+    dir.put(FileName::Discard, Bytes::copy(rt.alloc(), &[0; 129])?)?;
+    let mut dirs = Vec::new(rt.alloc());
+    dirs.push((Place::De(0), dir))?;
+    let tree = print_tree(rt.alloc(), b"tree", dirs.as_slice(), None)?;
+    assert_eq!(rt; tree.as_slice(), LONG_FILE);
+    Ok(())
+}
+
+#[test]
+fn prints_a_keystore(rt: HostRuntime) -> Result<(), Fail> {
+    let mut blob = [0; 32];
+    blob[0] = 1;
+    let entries = [
+        entry_row(blob, 1, 10, Class::De),
+        entry_row([171; 32], 2, u32::MAX, Class::Ce),
+    ];
+    let text = print_keystore(rt.alloc(), 2, &entries)?;
+    assert_eq!(rt; text.as_slice(), KEYSTORE);
+    Ok(())
+}
+
+fn entry_row(blob: [u8; 32], level: u32, user: u32, class: Class) -> EntryRow {
+    EntryRow {
+        blob: Blob::new(blob),
+        level,
+        tag: Tag { user, class },
+    }
 }
 
 #[test]

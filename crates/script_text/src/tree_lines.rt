@@ -4,15 +4,19 @@ ghost use Rattle.std.specs.List.{flat_map};
 ghost use Rattle.std.specs.FinMap as map;
 ghost use Rattle.script_text.specs.Words.{spaced, ten_digits};
 ghost use Rattle.script_text.specs.Tree.{slot_word, place_word, file_word, file_line, dir_text, tries_words};
-ghost use Rattle.script_text.specs.Tree.{tree_section};
+ghost use Rattle.script_text.specs.Tree.{hash_word, content_word, tree_section};
 
-use crate::appending::{push_decimal, push_line_feed, push_text};
+use crate::appending::{push_bytes, push_decimal, push_line_feed, push_text};
 use crate::shown::{Row, Shown, number};
+use sha2::{Digest, Sha512};
 use std::alloc::Global;
 use tree_model::{Bytes, Dir, FileName, NoMemory, Place, Slot};
 
 /// The zeros of a slot's ten digits.
 const ZEROS: [u8; 10] = [b'0'; 10];
+
+/// The most bytes of a file that are printed themselves.
+const MOST_PRINTED: usize = 128;
 
 /// Directories as text: a line with the first word, their number and where it is given that of the tries, then each
 /// directory with its files.
@@ -69,8 +73,29 @@ fn push_file(alloc: Global, out: &mut Vec<u8>, name: FileName, bytes: &[u8]) -> 
 {
     let name = Shown::Text(text_of_name(name));
     let count = Shown::Number(bytes.len() as u64);
-    Row::three(b"file", name, count, Shown::Bytes(bytes)).push(alloc, out)?;
+    Row::two(b"file", name, count).push(alloc, out)?;
+    push_content(alloc, out, bytes)?;
     push_line_feed(out)
+}
+
+/// Adds a space and a file's bytes, or the hash of many.
+fn push_content(alloc: Global, out: &mut Vec<u8>, bytes: &[u8]) -> Result<(), NoMemory>
+    ensures { OnOk result (out.new.items ≡ out.old.items ++ 32 ∷ content_word bytes.now) }
+{
+    if bytes.len() > MOST_PRINTED {
+        return push_hash(alloc, out, bytes);
+    }
+    push_bytes(alloc, out, bytes)
+}
+
+/// Adds a space and the hash of bytes.
+fn push_hash(alloc: Global, out: &mut Vec<u8>, bytes: &[u8]) -> Result<(), NoMemory>
+    ensures { OnOk result (out.new.items ≡ out.old.items ++ 32 ∷ hash_word bytes.now) }
+{
+    let hash = Sha512::digest(bytes);
+    let digits = hex::encode(alloc, &hash[..8])?;
+    push_text(out, b" #")?;
+    push_text(out, digits.as_bytes())
 }
 
 fn text_of_name(name: FileName) -> &'static [u8]
