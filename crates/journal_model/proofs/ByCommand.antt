@@ -8,7 +8,7 @@ use Rattle.journal_model.specs.declared.commands.Actor.TheVariants.{Boot, Cp, Us
 use Rattle.journal_model.specs.declared.commands.Command.{Command}
 use Rattle.journal_model.specs.declared.commands.Command.TheVariants.{Create, Recover}
 use Rattle.journal_model.specs.declared.commands.Reply.{Reply}
-use Rattle.journal_model.specs.declared.commands.Reply.TheVariants.{Done, Ended, UserExists, Ready, TreeFault}
+use Rattle.journal_model.specs.declared.commands.Reply.TheVariants.{Done, Ended, UserExists, Ready, TreeFault, StoreFault}
 use Rattle.journal_model.specs.declared.entries.Change.{Change}
 use Rattle.journal_model.specs.declared.phase.Phase.{Phase}
 use Rattle.journal_model.specs.declared.phase.Phase.TheVariants.{Halted}
@@ -46,11 +46,13 @@ module _ (Logged Logged' : Change → Type 0) (Durable Durable' : Option ℕ →
   success-more boot began (Create user) UserExists success = absurd success
   success-more boot began (Create user) Ready success = absurd success
   success-more boot began (Create user) TreeFault success = absurd success
+  success-more boot began (Create user) StoreFault success = absurd success
   success-more boot began Recover Done success = absurd success
   success-more boot began Recover (Ended count) success = (success.0, durable None success.1)
   success-more boot began Recover UserExists success = absurd success
   success-more boot began Recover Ready success = absurd success
   success-more boot began Recover TreeFault success = absurd success
+  success-more boot began Recover StoreFault success = absurd success
 
 -- what is due when a command begins is a refusal
 due-kind : (holds : Bool) (refusal reply : Reply) → kind_of_reply refusal ≡ Refusal → due holds refusal ≡ Some reply
@@ -72,6 +74,7 @@ phase-stays phase Recover (Ended count) differ = absurd (differ refl)
 phase-stays phase Recover UserExists differ = refl
 phase-stays phase Recover Ready differ = refl
 phase-stays phase Recover TreeFault differ = refl
+phase-stays phase Recover StoreFault differ = refl
 
 -- and none stops the machine
 pub never-stops : (phase : Phase) (command : Command) (reply : Reply) → phase ≢ Halted
@@ -82,3 +85,4 @@ never-stops phase Recover (Ended count) differ = λ e. cc
 never-stops phase Recover UserExists differ = differ
 never-stops phase Recover Ready differ = differ
 never-stops phase Recover TreeFault differ = differ
+never-stops phase Recover StoreFault differ = differ

@@ -8,7 +8,7 @@ use Rattle.journal_model.specs.declared.commands.Actor.TheVariants.{Boot}
 use Rattle.journal_model.specs.declared.commands.Command.{Command}
 use Rattle.journal_model.specs.declared.commands.Command.TheVariants.{Create, Recover}
 use Rattle.journal_model.specs.declared.commands.Reply.{Reply}
-use Rattle.journal_model.specs.declared.commands.Reply.TheVariants.{Done, Ended, TreeFault}
+use Rattle.journal_model.specs.declared.commands.Reply.TheVariants.{Done, Ended, TreeFault, StoreFault}
 use Rattle.journal_model.specs.declared.entries.Change.{Change}
 use Rattle.journal_model.specs.declared.entries.Change.TheVariants.{Create as Created}
 use Rattle.journal_model.specs.declared.entries.Entry.{Entry}
@@ -158,6 +158,7 @@ abbrev pub kind_of_reply : Reply → ReplyKind
 kind_of_reply Done = Success
 kind_of_reply (Ended count) = Success
 kind_of_reply TreeFault = Fault
+kind_of_reply StoreFault = Fault
 kind_of_reply reply = Refusal
 
 -- what a reply tells that a command did its work, by which changes are logged and whose are durable, in this boot

@@ -110,6 +110,8 @@ pub enum Reply {
     Ready,
     /// The tree device failed.
     TreeFault,
+    /// The keystore failed.
+    StoreFault,
 }
 
 /// Why a command got no number.

@@ -64,6 +64,13 @@ pub enum Entry {
     },
 }
 
+/// A device of the machine, whose calls may fail.
+#[derive(Clone, Copy, Debug, PartialEq, Eq)]
+pub enum Device {
+    Tree,
+    Store,
+}
+
 /// What was given to the machine from outside the script's actors.
 #[derive(Drop)]
 pub enum Order {

@@ -14,7 +14,7 @@ pub mod secrets;
 pub mod user_map;
 
 pub use commands::{Actor, Command, EnqueueFault, Reply};
-pub use entries::{Birth, Change, Entry, Order};
+pub use entries::{Birth, Change, Device, Entry, Order};
 pub use hashes::{app_id, prefixed_hash, wrap_key};
 pub use journal::Journal;
 pub use made::{boot_seed, made_bytes, made_discardable, made_key, made_nonce};

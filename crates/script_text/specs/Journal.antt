@@ -3,7 +3,7 @@ use Rattle.std.specs.Prelude.{ℕ, List, [], ◌∷◌, ◌++◌, length, codes}
 use Rattle.std.specs.List.{flat_map}
 use Rattle.journal_model.specs.declared.commands.Command.{Command}
 use Rattle.journal_model.specs.declared.commands.Reply.{Reply}
-use Rattle.journal_model.specs.declared.commands.Reply.TheVariants.{Done, Ended, UserExists, Ready, TreeFault}
+use Rattle.journal_model.specs.declared.commands.Reply.TheVariants.{Done, Ended, UserExists, Ready, TreeFault, StoreFault}
 use Rattle.journal_model.specs.declared.entries.Change.{Change}
 use Rattle.journal_model.specs.declared.entries.Change.TheVariants.{Create as Created}
 use Rattle.journal_model.specs.declared.entries.Entry.{Entry}
@@ -27,6 +27,7 @@ reply_words (Ended count) = codes "ok" ∷ decimal count ∷ []
 reply_words UserExists = codes "user-exists" ∷ []
 reply_words Ready = codes "ready" ∷ []
 reply_words TreeFault = codes "tree-fault" ∷ []
+reply_words StoreFault = codes "store-fault" ∷ []
 
 -- an entry: what happened, and its numbers
 abbrev pub entry_words : Entry → List (List ℕ)

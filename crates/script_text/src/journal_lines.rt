@@ -75,5 +75,6 @@ fn row_of_reply(reply: Reply) -> Row<'static>
         Reply::UserExists => Row::alone(b"user-exists"),
         Reply::Ready => Row::alone(b"ready"),
         Reply::TreeFault => Row::alone(b"tree-fault"),
+        Reply::StoreFault => Row::alone(b"store-fault"),
     }
 }

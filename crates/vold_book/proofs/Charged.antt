@@ -8,7 +8,8 @@ use Rattle.tree_model.specs.Counted.{IsCounted}
 use Rattle.journal_model.specs.declared.commands.Actor.{Actor}
 use Rattle.journal_model.specs.declared.commands.Command.{Command}
 use Rattle.journal_model.specs.declared.commands.Reply.{Reply}
-use Rattle.journal_model.specs.declared.commands.Reply.TheVariants.{Done, Ended, UserExists, Ready, TreeFault}
+use Rattle.journal_model.specs.declared.commands.Reply.TheVariants.{Done, Ended, UserExists, Ready}
+use Rattle.journal_model.specs.declared.commands.Reply.TheVariants.{TreeFault, StoreFault}
 use Rattle.journal_model.specs.declared.entries.Birth.{Birth}
 use Rattle.journal_model.specs.declared.entries.Entry.{Entry}
 use Rattle.journal_model.specs.declared.entries.Entry.TheVariants.{Began, Stopped, Restarted, Replied}
@@ -60,6 +61,7 @@ due-told (Ended count) task told = omega arith
 due-told UserExists task told = omega arith
 due-told Ready task told = omega arith
 due-told TreeFault task told = let e = ap due_in (told refl) in omega (arith, e)
+due-told StoreFault task told = omega arith
 
 due-first : (command : Command) (birth : Birth) (verdict : Option Reply) (task : Task)
     → FirstTask command birth verdict task
