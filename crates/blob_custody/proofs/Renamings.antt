@@ -70,17 +70,17 @@ module _ (disk : Disk) (user : ℕ) (op : LocalOp) (gains : List Blob)
   gained-whole left fill blob is names = gained left blob is
       (subst (λ o. PartNames (after_local (part_of left user) o) blob) (whole fill) names)
 
-whole-rename : (from to : Site) (fill : Fill) → filled_local fill (RenameDir from to) ≡ RenameDir from to
+pub whole-rename : (from to : Site) (fill : Fill) → filled_local fill (RenameDir from to) ≡ RenameDir from to
 whole-rename from to Same = refl
 whole-rename from to (Bytes other) = refl
 
-whole-remove : (site : Site) (fill : Fill) → filled_local fill (RemoveDir site) ≡ RemoveDir site
+pub whole-remove : (site : Site) (fill : Fill) → filled_local fill (RemoveDir site) ≡ RemoveDir site
 whole-remove site Same = refl
 whole-remove site (Bytes other) = refl
 
 -- a birth: the two directories' blobs are what is named then
 module _ (part : Part) (device credential blob : Blob) (unborn : IsUnborn part device credential) where
-  birth-names : (found : Option Files) → part Temp ≡ found
+  pub birth-names : (found : Option Files) → part Temp ≡ found
       → PartNames (if_there found part (λ files. set (set part Temp None) De (Some files))) blob
       → Contains (credential ∷ device ∷ []) blob
   birth-names None none names = absurd (not-both (named_at (part Temp)) device (ap named_at none) unborn.made)
@@ -99,7 +99,7 @@ module _ (part : Part) (device credential blob : Blob) (unborn : IsUnborn part d
       at (Ce (Cx n)) is = absurd (not-both (named_at (part (Ce (Cx n)))) blob (unborn.others n) is)
       at Temp is = absurd (not-both None blob refl is)
 
-  birth-has : (found : Option Files) → part Temp ≡ found → Contains (credential ∷ device ∷ []) blob
+  pub birth-has : (found : Option Files) → part Temp ≡ found → Contains (credential ∷ device ∷ []) blob
       → PartNames (if_there found part (λ files. set (set part Temp None) De (Some files))) blob
   birth-has None none has = absurd (not-both (named_at (part Temp)) device (ap named_at none) unborn.made)
   birth-has (Some files) there has = elim (Contains-cases credential (device ∷ []) blob has) [

@@ -2,6 +2,7 @@ pub mod Apart
 pub mod Births
 pub mod Lasting
 pub mod Opening
+pub mod Present
 pub mod Standing
 pub mod Storing
 pub mod Tested

@@ -88,7 +88,8 @@ live-listed (first ∷ entries) blob has = elim (Contains-cases first.blob (blob
       ]
 ]
 
-differ-push : (blobs : List Blob) (blob : Blob) → Differ blobs → ¬ (Contains blobs blob) → Differ (blobs ++ blob ∷ [])
+pub differ-push : (blobs : List Blob) (blob : Blob) → Differ blobs → ¬ (Contains blobs blob)
+    → Differ (blobs ++ blob ∷ [])
 differ-push [] blob differ fresh = (Contains-none blob, tt)
 differ-push (first ∷ blobs) blob differ fresh = (
   λ has. elim (Contains-push_cases blobs blob first has) [
@@ -104,7 +105,7 @@ blobs-append [] entry = refl
 blobs-append (first ∷ entries) entry = ap (λ blobs. first.blob ∷ blobs) (blobs-append entries entry)
 
 -- a blob that is not given has no entry
-not-given : (store : Store) (blob : Blob) → IsStore store → ¬ (Contains store.given blob)
+pub not-given : (store : Store) (blob : Blob) → IsStore store → ¬ (Contains store.given blob)
     → entry_of store.entries blob ≡ None
 not-given store blob is fresh =
     elim (entry_of store.entries blob) as (λ found. entry_of store.entries blob ≡ found → found ≡ None) [

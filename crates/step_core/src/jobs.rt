@@ -138,6 +138,13 @@ impl JobDone {
         &self.job.input
     }
 
+    /// What it computed, alone.
+    pub fn into_output(self) -> JobOutput
+        ensures { result ≡ output_of self.input }
+    {
+        self.output
+    }
+
     /// What it computed.
     pub fn output(&self) -> &JobOutput
         ensures { result.now ≡ output_of self.now.input }

@@ -1,7 +1,7 @@
 ghost use Rattle.std.specs.Prelude.{◌≡◌, ◌<◌, ◌⊎◌, ◌↔◌, IsTrue, IsSome, OnOk, OnErr, max};
 ghost use Rattle.std.specs.FinMap as map;
 ghost use Rattle.std.specs.FinSet as set;
-ghost use Rattle.sorted_map.specs.Maps.{held};
+ghost use Rattle.sorted_map.specs.Maps.{held, IsNextKey};
 ghost use Rattle.tree_model.specs.Order.{place_cmp};
 ghost use Rattle.tree_model.specs.declared.places.Place.TheVariants.{De};
 ghost use Rattle.step_core.specs.Known.{Unmarks};
@@ -168,6 +168,13 @@ impl Table {
             Some(known) => known.marked,
             None => false,
         }
+    }
+
+    /// The first place above another; None where there is none.
+    pub fn next_place(&self, after: Place) -> Option<Place>
+        ensures { IsNextKey self.now.places (Some after) result }
+    {
+        self.rows.next_key(Some(after))
     }
 
     /// The places, in order.

@@ -21,7 +21,8 @@ use Rattle.user_world.specs.declared.changes.LocalChange.{LocalChange}
 use Rattle.user_world.specs.Changes.{change_of, known_through, changes_for, if_noted, noted_kind}
 use Rattle.user_world.specs.Meaning.{Meaning, PartStands, StandsFor}
 use Rattle.user_world.specs.Images.{ImagesStand}
-use Rattle.user_world.specs.OwnWorlds.{Step, quiet, filled_step, own_view, own_record, settled, OwnImagesStand}
+use Rattle.user_world.specs.OwnWorlds.{Step, quiet, filled_step, own_view, own_record, with_step, settled}
+use Rattle.user_world.specs.OwnWorlds.{OwnImagesStand}
 use Rattle.user_world.specs.Facts.{Fact, Logged, Durable, Holds, AllHold, Later}
 use Rattle.user_world.specs.Worlds.{Owned, World, ops_of, changes_of, log_of, own}
 use Rattle.user_world.specs.Worlds.{with_owned, settled_world, stopped_world, NotesFit}
@@ -147,6 +148,14 @@ module _ (meaning : Meaning) where
       (subst (OwnImagesStand meaning user) (sym (own-step user world step))
       (images-step meaning user (own user world) step (stands.images user) step_shows.keeps Same))
       (subst (AllHold next) (sym (own-step user world step)) step_shows.leads)
+
+  -- the user's own world then
+  pub own-operated : (line : Timeline) (user : ℕ) (step : Step) → OwnWorldsStand meaning line
+      → local_kind (own_view (own_of user line)) step.op ≡ noted_kind step.note
+      → own_of user (line_with line user step) ≡ with_step (own_of user line) step
+  own-operated line user step stands noted =
+      ap (own user) (one-world (with_owned (world_of line) user step) (line_with line user step)
+      (shows-step (world_of line) line user step stands.shows noted)) ∙ own-step user (world_of line) step
 
   -- one that makes no change
   pub line-quiet : (line : Timeline) (user : ℕ) (op : LocalOp) (next : List Fact) → OwnWorldsStand meaning line
