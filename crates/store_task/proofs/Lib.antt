@@ -1,3 +1,5 @@
-mod StoredFiles
-mod Lasting
-mod ShownTurns
+pub mod StoredFiles
+pub mod HeldBlobs
+pub mod Places
+pub mod ShownTurns
+pub mod AskedJobs

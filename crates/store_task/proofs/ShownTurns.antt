@@ -1,5 +1,5 @@
 -- Each turn of a task shows what it has to.
-use Rattle.std.proofs.Common.{◌≡◌, ◌≢◌, ℕ, ◌<◌, true, false, cond, List, refl, sym, ap, ◌∙◌}
+use Rattle.std.proofs.Common.{◌≡◌, ◌≢◌, ◌⊎◌, ℕ, ◌+◌, ◌<◌, ◌≤◌, true, false, cond, List, refl, sym, ap, ◌∙◌}
 use Rattle.std.proofs.Common.{subst, arith, inl, inr}
 use Rattle.std.specs.Prelude.{Option, Some, None, is_some, Result, Ok, Err, IfOk}
 use Rattle.std.specs.FinMap as map
@@ -22,6 +22,7 @@ use Rattle.keystore_model.proofs.Stores.{entry-push}
 use Rattle.user_world.specs.declared.changes.LocalChange.{LocalChange}
 use Rattle.user_world.specs.OwnWorlds.{OwnWorld, own_view, with_step}
 use Rattle.user_world.specs.Facts.{HereAt, Holds}
+use Rattle.user_world.specs.Turns.{adds_local}
 use Rattle.user_world.proofs.OwnWorlds.{view-step}
 use Rattle.key_directory.specs.Shape.{version_bytes}
 use Rattle.key_directory.specs.Vaults.{Vault}
@@ -33,12 +34,13 @@ use Rattle.store_task.specs.declared.stages.Stage.TheVariants.{Tied, Generated, 
 use Rattle.store_task.specs.declared.stages.Progress.{Progress}
 use Rattle.store_task.specs.declared.stages.Progress.TheVariants.{Absent, Made, Versioned, Discardable, Named, Keyed}
 use Rattle.store_task.specs.declared.stages.Progress.TheVariants.{Settled, Stored}
-use Rattle.store_task.specs.Shares.{Share, Has, AllHas}
+use Rattle.task_turns.specs.Shares.{Share, Has, AllHas}
 use Rattle.store_task.specs.Task.{Task, places_at, sealing, filling, with_version, with_discard, with_blob}
-use Rattle.store_task.specs.Task.{IsTask, left_in, progress_after}
-use Rattle.store_task.specs.Turns.{StoreTurns, StaysAside, with_op}
+use Rattle.store_task.specs.Task.{IsTask, left_in, makes_in, progress_after}
+use Rattle.task_turns.specs.Turns.{operated}
+use Rattle.store_task.specs.Turns.{StoreTurns, StaysAside, PutsInPlace}
 
-off-temp : (site : Site) → site ≢ Temp → same_site site Temp ≡ false
+pub off-temp : (site : Site) → site ≢ Temp → same_site site Temp ≡ false
 off-temp De away = refl
 off-temp (Ce slot) away = refl
 off-temp Temp away = absurd (away refl)
@@ -48,7 +50,7 @@ temp-off De away = refl
 temp-off (Ce slot) away = refl
 temp-off Temp away = absurd (away refl)
 
-at-itself : (site : Site) → same_site site site ≡ true
+pub at-itself : (site : Site) → same_site site site ≡ true
 at-itself De = refl
 at-itself (Ce slot) = tied slot_total slot_exact slot slot refl
 at-itself Temp = refl
@@ -90,7 +92,7 @@ module _ (own : OwnWorld) (note : Option LocalChange) where
     renamed-temp = renamed-at Temp ∙ ap (λ t. cond t (Some files) None) (temp-off target away)
 
 -- how the key was sealed is no matter of the user's world
-sealing-stays : (spec : StoreSpec) (blob : Option Blob) (sealed : List ℕ) (vault : Vault) (own other : OwnWorld)
+pub sealing-stays : (spec : StoreSpec) (blob : Option Blob) (sealed : List ℕ) (vault : Vault) (own other : OwnWorld)
     → Has (sealing spec blob sealed) (record { own = own; vault = vault })
     → Has (sealing spec blob sealed) (record { own = other; vault = vault })
 sealing-stays spec None sealed vault own other has = has
@@ -176,22 +178,38 @@ module _ (spec : StoreSpec) (job : ℕ) (blob : Option Blob) (sealed : List ℕ)
   abbrev InPlace : Progress → Share → Type 0
   InPlace progress share = AllHas (places_at (site_of spec.target) spec.discard blob sealed progress) share
 
-  tree-turn : (progress then : Progress) → progress_after (is_some blob) progress ≡ then → progress ≢ Stored
-      → left_in then < left_in progress → (op : LocalOp) → StaysAside (at progress) op
+  -- the directory gets so far by the operation
+  record GetsTo (progress then : Progress) (op : LocalOp) : Type 0 where
+    is : progress_after (is_some blob) progress ≡ then
+    lasts : progress ≢ Stored
+    falls : left_in then < left_in progress
+    makes : makes_in then + adds_local op ≤ makes_in progress
+
+  stays-aside : (progress then : Progress) (op : LocalOp) → GetsTo progress then op → then ≢ Settled → then ≢ Stored
+      → ((site : Site) → site ≢ Temp → touches op site ≡ false) → StaysAside (at progress) op
+  stays-aside progress then op gets unsynced goes_on apart = record {
+    apart = apart;
+    unsynced = subst (λ p. p ≢ Settled) (sym gets.is) unsynced;
+    goes_on = subst (λ p. p ≢ Stored) (sym gets.is) goes_on;
+  }
+
+  tree-turn : (progress then : Progress) (op : LocalOp) → GetsTo progress then op
+      → StaysAside (at progress) op ⊎ PutsInPlace (at progress) op
       → ((share : Share) → InPlace progress share → LocalFits (own_view share.own) op)
-      → ((share : Share) (note : Option LocalChange) → InPlace progress share → InPlace then (with_op share op note))
+      → ((share : Share) (note : Option LocalChange) → InPlace progress share → InPlace then (operated share op note))
       → StoreTurns (at progress) (Some (Tree op))
-  tree-turn progress then is lasts falls op owned fits leads = (
-    λ e. absurd (omega (arith, e, falls)),
+  tree-turn progress then op gets owned fits leads = (
+    λ e. absurd (omega (arith, e, gets.falls)),
     λ share facts. record {
       fits = fits share facts.1;
       owned = owned;
+      makes = subst (λ p. makes_in p + adds_local op ≤ makes_in progress) (sym gets.is) gets.makes;
       leads = λ note. record {
-        answers = lasts;
-        falls = subst (λ p. left_in p < left_in progress) (sym is) falls;
+        answers = gets.lasts;
+        falls = subst (λ p. left_in p < left_in progress) (sym gets.is) gets.falls;
         facts = (
-          sealing-stays spec blob sealed share.vault share.own (with_op share op note).own facts.0,
-          subst (λ p. InPlace p (with_op share op note)) (sym is) (leads share note facts.1),
+          sealing-stays spec blob sealed share.vault share.own (operated share op note).own facts.0,
+          subst (λ p. InPlace p (operated share op note)) (sym gets.is) (leads share note facts.1),
         );
       };
     },
@@ -199,7 +217,11 @@ module _ (spec : StoreSpec) (job : ℕ) (blob : Option Blob) (sealed : List ℕ)
 
   module _ (away : site_of spec.target ≢ Temp) where
     make-turn : StoreTurns (at Absent) (Some (Tree (MakeDir Temp)))
-    make-turn = tree-turn Absent Made refl (λ e. cc) (omega arith) (MakeDir Temp) (inl off-temp)
+    make-turn =
+        let gets : GetsTo Absent Made (MakeDir Temp) =
+        record { is = refl; lasts = λ e. cc; falls = omega arith; makes = omega arith } in
+        tree-turn Absent Made (MakeDir Temp) gets
+        (inl (stays-aside Absent Made (MakeDir Temp) gets (λ e. cc) (λ e. cc) off-temp))
         (λ share places. ap is_some places.0)
         (λ share note places. (
           made share.own note,
@@ -207,18 +229,24 @@ module _ (spec : StoreSpec) (job : ℕ) (blob : Option Blob) (sealed : List ℕ)
         ))
 
     -- a file is written
-    write-turn : (progress then : Progress) → progress_after (is_some blob) progress ≡ then → progress ≢ Stored
-        → left_in then < left_in progress → (files : Files) (file : FileName) (bytes : List ℕ)
-        → places_at (site_of spec.target) spec.discard blob sealed progress ≡ filling (site_of spec.target) files
-        → places_at (site_of spec.target) spec.discard blob sealed then
-        ≡ filling (site_of spec.target) (map.insert files file bytes)
+    record Writes (progress then : Progress) (files : Files) (file : FileName) (bytes : List ℕ) : Type 0 where
+      gets : GetsTo progress then (Write Temp file bytes)
+      unsynced : then ≢ Settled
+      goes_on : then ≢ Stored
+      now : places_at (site_of spec.target) spec.discard blob sealed progress ≡ filling (site_of spec.target) files
+      later : places_at (site_of spec.target) spec.discard blob sealed then
+          ≡ filling (site_of spec.target) (map.insert files file bytes)
+
+    write-turn : (progress then : Progress) (files : Files) (file : FileName) (bytes : List ℕ)
+        → Writes progress then files file bytes
         → StoreTurns (at progress) (Some (Tree (Write Temp file bytes)))
-    write-turn progress then is lasts falls files file bytes now later =
-        tree-turn progress then is lasts falls (Write Temp file bytes) (inl off-temp)
-        (λ share places. let facts = subst (λ fs. AllHas fs share) now places in ap is_some facts.0)
+    write-turn progress then files file bytes writes =
+        tree-turn progress then (Write Temp file bytes) writes.gets
+        (inl (stays-aside progress then (Write Temp file bytes) writes.gets writes.unsynced writes.goes_on off-temp))
+        (λ share places. let facts = subst (λ fs. AllHas fs share) writes.now places in ap is_some facts.0)
         (λ share note places.
-        let facts = subst (λ fs. AllHas fs share) now places in
-        subst (λ fs. AllHas fs (with_op share (Write Temp file bytes) note)) (sym later) (
+        let facts = subst (λ fs. AllHas fs share) writes.now places in
+        subst (λ fs. AllHas fs (operated share (Write Temp file bytes) note)) (sym writes.later) (
           written share.own note files file bytes facts.0,
           (
             elsewhere share.own note (Write Temp file bytes) (site_of spec.target) None (off-temp _ away) facts.1.0,
@@ -227,8 +255,9 @@ module _ (spec : StoreSpec) (job : ℕ) (blob : Option Blob) (sealed : List ℕ)
         ))
 
     rename-turn : StoreTurns (at Settled) (Some (Tree (RenameDir Temp (site_of spec.target))))
-    rename-turn = tree-turn Settled Stored refl (λ e. cc) (omega arith) (RenameDir Temp (site_of spec.target))
-        (inr refl)
+    rename-turn = tree-turn Settled Stored (RenameDir Temp (site_of spec.target))
+        (record { is = refl; lasts = λ e. cc; falls = omega arith; makes = omega arith })
+        (inr (record { renames = refl; synced = refl }))
         (λ share places. (ap is_some places.1.1.0, ap is_some places.1.1.1.0))
         (λ share note places. (
           renamed-temp share.own note (site_of spec.target) away _ places.1.1.0,
@@ -249,22 +278,42 @@ module _ (task : Task) (blob : Option Blob) (sealed : List ℕ) (whole : IsTask 
       → StoreTurns task (Some (Tree (Write Temp Version version_bytes)))
   version-turn is =
       store-at Made is (Some (Tree (Write Temp Version version_bytes)))
-      (write-turn task.spec task.job blob sealed whole.target Made Versioned refl
-      (λ e. cc) (omega arith) map.empty Version version_bytes refl refl)
+      (write-turn task.spec task.job blob sealed whole.target Made Versioned map.empty Version version_bytes
+      (record {
+        gets = record { is = refl; lasts = λ e. cc; falls = omega arith; makes = omega arith };
+        unsynced = λ e. cc;
+        goes_on = λ e. cc;
+        now = refl;
+        later = refl;
+      }))
 
   pub discard-turn : task.stage ≡ Storing blob sealed Versioned
       → StoreTurns task (Some (Tree (Write Temp Discard task.spec.discard)))
   discard-turn is =
       store-at Versioned is (Some (Tree (Write Temp Discard task.spec.discard)))
-      (write-turn task.spec task.job blob sealed whole.target Versioned Discardable refl
-      (λ e. cc) (omega arith) with_version Discard task.spec.discard refl refl)
+      (write-turn task.spec task.job blob sealed whole.target Versioned Discardable with_version Discard
+      task.spec.discard
+      (record {
+        gets = record { is = refl; lasts = λ e. cc; falls = omega arith; makes = omega arith };
+        unsynced = λ e. cc;
+        goes_on = λ e. cc;
+        now = refl;
+        later = refl;
+      }))
 
   pub named-turn : task.stage ≡ Storing blob sealed Named
       → StoreTurns task (Some (Tree (Write Temp EncryptedKey sealed)))
   named-turn is =
       store-at Named is (Some (Tree (Write Temp EncryptedKey sealed)))
-      (write-turn task.spec task.job blob sealed whole.target Named Keyed refl
-      (λ e. cc) (omega arith) (with_blob task.spec.discard blob) EncryptedKey sealed refl refl)
+      (write-turn task.spec task.job blob sealed whole.target Named Keyed
+      (with_blob task.spec.discard blob) EncryptedKey sealed
+      (record {
+        gets = record { is = refl; lasts = λ e. cc; falls = omega arith; makes = omega arith };
+        unsynced = λ e. cc;
+        goes_on = λ e. cc;
+        now = refl;
+        later = refl;
+      }))
 
   pub settled-turn : task.stage ≡ Storing blob sealed Settled
       → StoreTurns task (Some (Tree (RenameDir Temp (site_of task.spec.target))))
@@ -277,14 +326,28 @@ module _ (task : Task) (sealed : List ℕ) (whole : IsTask task) where
   pub blob-turn : (blob : Blob) → task.stage ≡ Storing (Some blob) sealed Discardable
       → StoreTurns task (Some (Tree (Write Temp BlobFile blob)))
   blob-turn blob is = store-at task (Some blob) sealed whole Discardable is (Some (Tree (Write Temp BlobFile blob)))
-      (write-turn task.spec task.job (Some blob) sealed whole.target Discardable Named refl
-      (λ e. cc) (omega arith) (with_discard task.spec.discard) BlobFile blob refl refl)
+      (write-turn task.spec task.job (Some blob) sealed whole.target Discardable Named
+      (with_discard task.spec.discard) BlobFile blob
+      (record {
+        gets = record { is = refl; lasts = λ e. cc; falls = omega arith; makes = omega arith };
+        unsynced = λ e. cc;
+        goes_on = λ e. cc;
+        now = refl;
+        later = refl;
+      }))
 
   pub unnamed-turn : task.stage ≡ Storing None sealed Discardable
       → StoreTurns task (Some (Tree (Write Temp EncryptedKey sealed)))
   unnamed-turn is = store-at task None sealed whole Discardable is (Some (Tree (Write Temp EncryptedKey sealed)))
-      (write-turn task.spec task.job None sealed whole.target Discardable Keyed refl
-      (λ e. cc) (omega arith) (with_discard task.spec.discard) EncryptedKey sealed refl refl)
+      (write-turn task.spec task.job None sealed whole.target Discardable Keyed
+      (with_discard task.spec.discard) EncryptedKey sealed
+      (record {
+        gets = record { is = refl; lasts = λ e. cc; falls = omega arith; makes = omega arith };
+        unsynced = λ e. cc;
+        goes_on = λ e. cc;
+        now = refl;
+        later = refl;
+      }))
 
 -- a turn that takes memory
 pub ok-turns : {E : Type 0} (task : Task) (doing : Option Doing) (result : Result (Option Doing) E)

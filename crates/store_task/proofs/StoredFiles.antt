@@ -25,7 +25,7 @@ use Rattle.key_directory.proofs.Storing.{stored-opens}
 use Rattle.tree_model.specs.Held.{blob_in}
 use Rattle.store_task.specs.declared.turns.StoreSpec.{StoreSpec}
 use Rattle.store_task.specs.Laws.{LawOfStoredDirectory}
-use Rattle.store_task.specs.Shares.{Share, Has, AllHas, IsSealedFor}
+use Rattle.task_turns.specs.Shares.{Share, Has, AllHas, IsSealedFor}
 use Rattle.store_task.specs.Task.{IsBoundBy, IsStage, facts_at, sealing}
 use Rattle.store_task.specs.Task.{with_version, with_discard, with_blob, all_files}
 
@@ -121,11 +121,11 @@ module _ (vault : Vault) (discard nonce key : List ℕ) (discard_long : length d
       ∙ stored-opens.secret vault.entries vault.level discard nonce key byte bytes discard_long nonce_long key_long
 
 -- the blob that the files name
-files-named : (discard : List ℕ) (blob : Option Blob) (sealed : List ℕ)
+pub files-named : (discard : List ℕ) (blob : Option Blob) (sealed : List ℕ)
     → named_at (Some (all_files discard blob sealed)) ≡ blob
 files-named discard blob sealed = ap blob_in (held-stored discard blob sealed)
 
-names-own : (spec : StoreSpec) (share : Share) (blob : Option Blob) (sealed : List ℕ)
+pub names-own : (spec : StoreSpec) (share : Share) (blob : Option Blob) (sealed : List ℕ)
     → Has (sealing spec blob sealed) share
     → NamesOwn share.vault spec.tag (Some (all_files spec.discard blob sealed))
 names-own spec share None sealed has = λ named is.
@@ -141,7 +141,7 @@ names-own spec share (Some blob) sealed has = λ named is.
     }
 
 -- they open with the secret to the key
-files-open : (spec : StoreSpec) (share : Share) (blob : Option Blob) (sealed : List ℕ)
+pub files-open : (spec : StoreSpec) (share : Share) (blob : Option Blob) (sealed : List ℕ)
     → length spec.discard ≡ 16384 → length spec.nonce ≡ 12 → length spec.key ≡ 64
     → IsBoundBy spec.secret blob → Has (sealing spec blob sealed) share
     → opens share.vault.entries share.vault.level (held_in (all_files spec.discard blob sealed)) spec.secret

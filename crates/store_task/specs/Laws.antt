@@ -1,4 +1,5 @@
--- The laws of a task that stores a directory: its facts last, and its directory opens once it was synced.
+-- The laws of a task that stores a directory: it holds what its facts speak of, and its directory opens once it was
+-- synced.
 use Rattle.std.specs.Prelude.{◌≡◌, ℕ, List, Option, Some}
 use Rattle.tree_model.specs.declared.blobs.Blob.{Blob}
 use Rattle.tree_model.specs.declared.sites.Site.TheVariants.{Temp}
@@ -11,14 +12,12 @@ use Rattle.key_directory.specs.Opens.{opens}
 use Rattle.key_directory.specs.Vaults.{NamesOwn}
 use Rattle.store_task.specs.declared.stages.Stage.TheVariants.{Storing}
 use Rattle.store_task.specs.declared.stages.Progress.TheVariants.{Settled}
-use Rattle.store_task.specs.Shares.{Share, ShareFact, AllHas, LaterShare, AreHeld}
+use Rattle.task_turns.specs.Shares.{Share, AllHas, AreHeld}
 use Rattle.store_task.specs.Task.{Task, IsTask, IsBoundBy, all_files, facts_of, held_of}
 
--- facts last where the blobs that they speak of are held, and a task holds those of its facts
-pub record LawOfLasting : Type 0 where
-  pub lasts : (facts : List ShareFact) (held : List Blob) (before after : Share) → LaterShare held before after
-      → AreHeld held facts → AllHas facts before → AllHas facts after
-  pub holds : (task : Task) → AreHeld (held_of task) (facts_of task)
+-- a task holds the blobs that its facts speak of
+abbrev pub LawOfHeldBlobs : Type 0
+LawOfHeldBlobs = (task : Task) → AreHeld (held_of task) (facts_of task)
 
 -- the temporary directory of a part is these files, which open with the task's secret to its key, and name the blob,
 -- whose entry has the task's tag; there is a blob exactly where the secret is empty

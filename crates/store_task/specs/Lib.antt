@@ -1,4 +1,3 @@
-pub mod Shares
 pub mod Task
 pub mod Turns
 pub mod Laws

@@ -1,6 +1,6 @@
 -- A task that stores a directory, as data: the files that it wrote so far, the facts that it rests on, and what it is
 -- after an answer.
-use Rattle.std.specs.Prelude.{◌≡◌, ◌≢◌, ℕ, Bool, cond, List, [], ◌∷◌, length, Option, Some, None, is_some}
+use Rattle.std.specs.Prelude.{◌≡◌, ◌≢◌, ℕ, Bool, true, false, cond, List, [], ◌∷◌, length, Option, Some, None, is_some}
 use Rattle.std.specs.FinMap as map
 use Rattle.tree_model.specs.declared.blobs.Blob.{Blob}
 use Rattle.tree_model.specs.declared.files.FileName.TheVariants.{Version, EncryptedKey, Blob as BlobFile, Discard}
@@ -19,14 +19,14 @@ use Rattle.step_core.specs.declared.jobs.Job.{Job}
 use Rattle.user_world.specs.Facts.{HereAt, AlwaysAt}
 use Rattle.key_directory.specs.Shape.{version_bytes}
 use Rattle.store_task.specs.declared.turns.StoreSpec.{StoreSpec}
-use Rattle.store_task.specs.declared.turns.Answer.{Answer}
-use Rattle.store_task.specs.declared.turns.Answer.TheVariants.{Output, Blob as IsBlob, Sealed, Done}
+use Rattle.task_turns.specs.declared.calls.Answer.{Answer}
+use Rattle.task_turns.specs.declared.calls.Answer.TheVariants.{Output, Blob as IsBlob, Sealed, Done}
 use Rattle.store_task.specs.declared.stages.Stage.{Stage}
 use Rattle.store_task.specs.declared.stages.Stage.TheVariants.{First, Tied, Generated, Storing}
 use Rattle.store_task.specs.declared.stages.Progress.{Progress}
 use Rattle.store_task.specs.declared.stages.Progress.TheVariants.{Absent, Made, Versioned, Discardable, Named, Keyed}
 use Rattle.store_task.specs.declared.stages.Progress.TheVariants.{Settled, Stored}
-use Rattle.store_task.specs.Shares.{ShareFact, Own, KeyFor, SealedFor, Same}
+use Rattle.task_turns.specs.Shares.{ShareFact, Own, KeyFor, SealedFor, Same}
 
 pub record Task : Type 0 where
   pub spec : StoreSpec
@@ -121,6 +121,33 @@ held_at (Storing blob sealed progress) = held_by blob
 abbrev pub held_of : Task → List Blob
 held_of task = held_at task.stage
 
+-- how far the directory is: it isn't there before its key is sealed
+abbrev pub progress_of : Stage → Progress
+progress_of First = Absent
+progress_of (Tied app_id) = Absent
+progress_of (Generated app_id blob) = Absent
+progress_of (Storing blob sealed progress) = progress
+
+-- the temporary directory, as far as it was written
+abbrev pub temp_in : List ℕ → Option Blob → List ℕ → Progress → Option Files
+temp_in discard blob sealed Absent = None
+temp_in discard blob sealed Made = Some map.empty
+temp_in discard blob sealed Versioned = Some with_version
+temp_in discard blob sealed Discardable = Some (with_discard discard)
+temp_in discard blob sealed Named = Some (with_blob discard blob)
+temp_in discard blob sealed Keyed = Some (all_files discard blob sealed)
+temp_in discard blob sealed Settled = Some (all_files discard blob sealed)
+temp_in discard blob sealed Stored = None
+
+abbrev pub temp_at : List ℕ → Stage → Option Files
+temp_at discard First = None
+temp_at discard (Tied app_id) = None
+temp_at discard (Generated app_id blob) = None
+temp_at discard (Storing blob sealed progress) = temp_in discard blob sealed progress
+
+abbrev pub temp_of : Task → Option Files
+temp_of task = temp_at task.spec.discard task.stage
+
 -- how many turns it has left at most
 abbrev pub left_in : Progress → ℕ
 left_in Absent = 7
@@ -140,6 +167,23 @@ left_at (Storing blob sealed progress) = left_in progress
 
 abbrev pub left_of : Task → ℕ
 left_of task = left_at task.stage
+
+-- how many directories it still makes, and how many entries, at most
+abbrev pub makes_in : Progress → ℕ
+makes_in Absent = 1
+makes_in progress = 0
+
+abbrev pub makes_of : Task → ℕ
+makes_of task = makes_in (progress_of task.stage)
+
+abbrev pub draws_at : Stage → ℕ
+draws_at First = 1
+draws_at (Tied app_id) = 1
+draws_at (Generated app_id blob) = 0
+draws_at (Storing blob sealed progress) = 0
+
+abbrev pub draws_of : Task → ℕ
+draws_of task = draws_at task.stage
 
 -- the directory is stored
 abbrev pub HasEnded : Task → Type 0
@@ -247,3 +291,13 @@ first_job task = record {
   number = task.job;
   input = first_input task.spec.discard task.spec.nonce task.spec.key task.spec.secret;
 }
+
+-- whether it asks for its job next
+abbrev pub asks_at : Stage → Bool
+asks_at First = true
+asks_at (Tied app_id) = false
+asks_at (Generated app_id blob) = false
+asks_at (Storing blob sealed progress) = false
+
+abbrev pub asks_of : Task → Bool
+asks_of task = asks_at task.stage

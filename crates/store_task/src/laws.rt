@@ -1,8 +1,8 @@
-ghost use Rattle.store_task.specs.Laws.{LawOfLasting, LawOfStoredDirectory};
+ghost use Rattle.store_task.specs.Laws.{LawOfHeldBlobs, LawOfStoredDirectory};
 
-/// The facts that a task rests on last until its next turn, where the entries of the blobs that it holds stay.
-pub fn law_of_lasting()
-    ensures { LawOfLasting }
+/// A task holds the blobs that its facts speak of, so that the facts last between its turns.
+pub fn law_of_held_blobs()
+    ensures { LawOfHeldBlobs }
 {}
 
 /// Once a task's directory was synced, it opens with the secret to the key, whatever a stop leaves, and names a blob

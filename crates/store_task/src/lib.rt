@@ -9,7 +9,7 @@ pub mod turns;
 
 pub use stages::{Progress, Stage};
 pub use task::StoreTask;
-pub use turns::{Answer, Doing, StoreSpec};
+pub use turns::{Doing, StoreSpec};
 
 #[cfg(test)]
 mod tests;

@@ -1,9 +1,10 @@
-ghost use Rattle.std.specs.Prelude.{◌≡◌};
+ghost use Rattle.std.specs.Prelude.{◌≡◌, IfOk};
 ghost use Rattle.store_task.specs.Task.{stage_after, after_first, progress_after};
 
-use crate::turns::Answer;
+use std::alloc::Global;
 use step_core::JobOutput;
-use tree_model::{Blob, Bytes};
+use task_turns::Answer;
+use tree_model::{Blob, Bytes, NoMemory};
 
 /// How far the directory is, once its key is sealed.
 #[derive(Clone, Copy, Debug, PartialEq, Eq)]
@@ -63,6 +64,22 @@ impl Progress {
 }
 
 impl Stage {
+    /// The same stage in memory of its own.
+    pub fn duplicate(&self, alloc: Global) -> Result<Stage, NoMemory>
+        ensures { IfOk result (λ copied. copied ≡ self.now) }
+    {
+        Ok(match self {
+            Stage::First => Stage::First,
+            Stage::Tied(app_id) => Stage::Tied(Bytes::copy(alloc, app_id.as_slice())?),
+            Stage::Generated(app_id, blob) => {
+                Stage::Generated(Bytes::copy(alloc, app_id.as_slice())?, *blob)
+            }
+            Stage::Storing(blob, sealed, progress) => {
+                Stage::Storing(*blob, Bytes::copy(alloc, sealed.as_slice())?, *progress)
+            }
+        })
+    }
+
     /// What it is after an answer; the same where this answers nothing.
     pub fn after(self, answer: Answer) -> Stage
         ensures { result ≡ stage_after self answer }

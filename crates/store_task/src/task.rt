@@ -5,15 +5,16 @@ ghost use Rattle.tree_model.specs.declared.sites.Site.TheVariants.{Temp};
 ghost use Rattle.store_task.specs.declared.stages.Stage.TheVariants.{First, Storing};
 ghost use Rattle.store_task.specs.declared.turns.Doing.TheVariants.{Tree};
 ghost use Rattle.tree_model.specs.declared.sites.LocalOp.TheVariants.{Write};
-ghost use Rattle.store_task.specs.Task.{IsTask, IsAnswer, after, first_job};
-ghost use Rattle.store_task.specs.Turns.{StoreTurns};
+ghost use Rattle.store_task.specs.Task.{IsTask, IsAnswer, after, first_job, progress_of, held_by, held_of};
+ghost use Rattle.store_task.specs.Turns.{StoreTurns, StoreAsks};
 
 use crate::stages::{Progress, Stage};
-use crate::turns::{Answer, Doing, StoreSpec};
+use crate::turns::{Doing, StoreSpec};
 use std::alloc::Global;
 use std::marker::Model;
 use std::mem;
 use step_core::{Job, JobInput};
+use task_turns::Answer;
 use tree_model::{Blob, Bytes, FileName, LocalOp, NoMemory, Site};
 
 /// A task that stores a sealed key directory.
@@ -60,9 +61,42 @@ impl StoreTask {
         self.stage = stage.after(answer);
     }
 
+    /// The same task in memory of its own.
+    pub fn duplicate(&self, alloc: Global) -> Result<StoreTask, NoMemory>
+        ensures { IfOk result (λ copied. copied ≡ self.now) }
+    {
+        Ok(StoreTask {
+            spec: self.spec.duplicate(alloc)?,
+            job: self.job,
+            stage: self.stage.duplicate(alloc)?,
+        })
+    }
+
+    /// How far its directory is.
+    pub fn progress(&self) -> Progress
+        ensures { result ≡ progress_of self.now.stage }
+    {
+        match &self.stage {
+            Stage::First | Stage::Tied(_) | Stage::Generated(_, _) => Progress::Absent,
+            Stage::Storing(_, _, progress) => *progress,
+        }
+    }
+
+    /// The blob of the entry that it made.
+    pub fn held(&self) -> Option<Blob>
+        ensures { held_by result ≡ held_of self.now }
+    {
+        match &self.stage {
+            Stage::First | Stage::Tied(_) => None,
+            Stage::Generated(_, blob) => Some(*blob),
+            Stage::Storing(blob, _, _) => *blob,
+        }
+    }
+
     /// What it does next; None exactly where it has ended.
     pub fn next(&self, alloc: Global) -> Result<Option<Doing>, NoMemory>
         ensures turn { IfOk result (StoreTurns self.now) }
+        ensures asks { IfOk result (StoreAsks self.now) }
     {
         match &self.stage {
             Stage::First => Ok(Some(Doing::Work(self.job(alloc)?))),
@@ -112,7 +146,8 @@ impl StoreTask {
         progress: Progress,
     ) -> Result<Option<Doing>, NoMemory>
         requires { self.now.stage ≡ Storing blob sealed.now progress }
-        ensures { IfOk result (StoreTurns self.now) }
+        ensures turn { IfOk result (StoreTurns self.now) }
+        ensures asks { IfOk result (StoreAsks self.now) }
     {
         match progress {
             Progress::Absent => Ok(Some(Doing::Tree(LocalOp::MakeDir(Site::Temp)))),

@@ -8,7 +8,8 @@ use keystore_model::Tag;
 use std::alloc::Global;
 use std::test::Fail;
 use step_core::JobOutput;
-use tree_model::{Bytes, Class, NoMemory, Place};
+use task_turns::Answer;
+use tree_model::{Blob, Bytes, Class, NoMemory, Place};
 
 /// The discardable file.
 fn discard(alloc: Global) -> Result<Bytes, NoMemory>
@@ -35,5 +36,11 @@ fn begins_under_an_entry(rt: HostRuntime) -> Result<(), Fail> {
     assert!(rt; matches!(task.next(alloc)?, Some(Doing::Work(_))));
     task.heard(Answer::Output(JobOutput::AppId(Bytes::copy(alloc, &[3; 64])?)));
     assert!(rt; matches!(task.next(alloc)?, Some(Doing::Generate { .. })));
+    assert!(rt; task.held().is_none());
+    task.heard(Answer::Blob(Blob::new([4; 32])));
+    let copied = task.duplicate(alloc)?;
+    assert!(rt; copied.held() == Some(Blob::new([4; 32])));
+    assert_eq!(rt; copied.progress(), Progress::Absent);
+    assert!(rt; matches!(copied.next(alloc)?, Some(Doing::Encrypt { .. })));
     Ok(())
 }

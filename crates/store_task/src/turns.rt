@@ -1,7 +1,10 @@
+ghost use Rattle.std.specs.Prelude.{◌≡◌, IfOk};
+
 use journal_model::Secret;
 use keystore_model::Tag;
-use step_core::{Job, JobOutput};
-use tree_model::{Blob, Bytes, LocalOp, Place};
+use std::alloc::Global;
+use step_core::Job;
+use tree_model::{Blob, Bytes, LocalOp, NoMemory, Place};
 
 /// What is to be stored, and where.
 #[derive(Drop)]
@@ -18,6 +21,22 @@ pub struct StoreSpec {
     pub nonce: [u8; 12],
     /// The discardable file: 16,384 bytes.
     pub discard: Bytes,
+}
+
+impl StoreSpec {
+    /// The same in memory of its own.
+    pub fn duplicate(&self, alloc: Global) -> Result<StoreSpec, NoMemory>
+        ensures { IfOk result (λ copied. copied ≡ self.now) }
+    {
+        Ok(StoreSpec {
+            target: self.target,
+            tag: self.tag,
+            key: self.key,
+            secret: self.secret.duplicate(alloc)?,
+            nonce: self.nonce,
+            discard: Bytes::copy(alloc, self.discard.as_slice())?,
+        })
+    }
 }
 
 /// What a task does next.
@@ -41,17 +60,4 @@ pub enum Doing {
     Tree(LocalOp),
     /// Everything that is pending becomes stable.
     Sync,
-}
-
-/// The answer to what a task did.
-#[derive(Drop)]
-pub enum Answer {
-    /// What the job computed.
-    Output(JobOutput),
-    /// The blob of the entry that was made.
-    Blob(Blob),
-    /// The nonce, the ciphertext and its tag: 92 bytes.
-    Sealed(Bytes),
-    /// An operation or a sync was done.
-    Done,
 }

@@ -12,6 +12,7 @@ returns-in_ok-copy-in-Tied c =
       turn = subst (λ task. StoreTurns task (Some (Generate inside.spec.tag app_id))) c.self.view_is
           (generate-turn _ (Some (Generate inside.spec.tag app_id)) c.in-Tied.app_id c.in-Tied.is
           (ap (λ bytes. Some (Generate inside.spec.tag bytes)) (c.in_ok-copy-in-Tied.ensures ∙ c.as_slice.ensures)));
+      asks = tt;
     }
 
 pub returns-in_ok-copy-in-Generated : goal.returns-in_ok-copy-in-Generated
@@ -24,4 +25,5 @@ returns-in_ok-copy-in-Generated c =
           c.in-Generated.is
           (ap (λ bytes. Some (Encrypt blob bytes spec.nonce spec.key))
           (c.in_ok-copy-in-Generated.ensures ∙ c.as_slice-in-Generated.ensures)));
+      asks = tt;
     }

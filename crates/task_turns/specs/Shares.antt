@@ -1,6 +1,9 @@
 -- A user's share of the tree and of the keystore, the facts that a task rests on there, and when they last.
 use Rattle.std.specs.Prelude.{◌≡◌, ℕ, List, [], ◌∷◌, Some, Contains}
 use Rattle.tree_model.specs.declared.blobs.Blob.{Blob}
+use Rattle.tree_model.specs.declared.places.Class.{Class}
+use Rattle.journal_model.specs.declared.entries.Birth.{Birth}
+use Rattle.journal_model.specs.Made.{key_of}
 use Rattle.seal_model.specs.Sealed.{sealed_text}
 use Rattle.keystore_model.specs.declared.entry.StoreEntry.{StoreEntry}
 use Rattle.keystore_model.specs.declared.entry.Tag.{Tag}
@@ -22,6 +25,8 @@ pub data ShareFact : Type 0 where
   SealedFor : Blob → List ℕ → Tag → List ℕ → List ℕ → List ℕ → ShareFact
   -- two lists of bytes are the same
   Same : List ℕ → List ℕ → ShareFact
+  -- these bytes are the key that a user of this birth was given
+  Given : List ℕ → Class → ℕ → Birth → ShareFact
 
 pub record IsKeyFor (vault : Vault) (blob : Blob) (app_id : List ℕ) (tag : Tag) : Type 0 where
   pub entry : StoreEntry
@@ -40,6 +45,7 @@ Has (Own fact) share = Holds fact share.own
 Has (KeyFor blob app_id tag) share = IsKeyFor share.vault blob app_id tag
 Has (SealedFor blob app_id tag nonce key sealed) share = IsSealedFor share.vault blob app_id tag nonce key sealed
 Has (Same a b) share = a ≡ b
+Has (Given key class user birth) share = key ≡ key_of share.vault.seed class user birth
 
 abbrev pub AllHas : List ShareFact → Share → Type 0
 AllHas [] share = Unit {0}
@@ -59,6 +65,7 @@ IsHeld held (Own fact) = Unit {0}
 IsHeld held (KeyFor blob app_id tag) = Contains held blob
 IsHeld held (SealedFor blob app_id tag nonce key sealed) = Contains held blob
 IsHeld held (Same a b) = Unit {0}
+IsHeld held (Given key class user birth) = Unit {0}
 
 abbrev pub AreHeld : List Blob → List ShareFact → Type 0
 AreHeld held [] = Unit {0}

@@ -1,0 +1,32 @@
+-- The job that a task asks for: it may hear the output, and asks for no further one.
+use Rattle.std.proofs.Common.{◌≡◌, ℕ, true, false, List, [], ◌∷◌, refl, sym, subst}
+use Rattle.step_core.specs.declared.jobs.Job.{Job}
+use Rattle.step_core.specs.Jobs.{output_of}
+use Rattle.task_turns.specs.declared.calls.Answer.TheVariants.{Output}
+use Rattle.store_task.specs.declared.turns.StoreSpec.{StoreSpec}
+use Rattle.store_task.specs.declared.stages.Stage.TheVariants.{First}
+use Rattle.store_task.specs.declared.stages.Progress.TheVariants.{Absent}
+use Rattle.store_task.specs.Task.{Task, IsAnswer, after, asks_of, first_job, progress_of}
+use Rattle.store_task.specs.Turns.{AsksFirst}
+
+-- what holds of a task that asks for the job
+pub record IsAsked (task : Task) (job : Job) : Type 0 where
+  pub asks : asks_of task ≡ true
+  pub hears : IsAnswer task (Output (output_of job.input))
+  pub once : asks_of (after task (Output (output_of job.input))) ≡ false
+  -- the directory isn't begun with the output
+  pub absent : progress_of (after task (Output (output_of job.input))).stage ≡ Absent
+
+module _ (spec : StoreSpec) (number : ℕ) where
+  abbrev begun : List ℕ → Task
+  begun secret = record { spec = record spec { secret = secret }; job = number; stage = First }
+
+  asked-first : (secret : List ℕ) → IsAsked (begun secret) (first_job (begun secret))
+  asked-first [] = record { asks = refl; hears = refl; once = refl; absent = refl }
+  asked-first (byte ∷ bytes) = record { asks = refl; hears = λ e. cc; once = refl; absent = refl }
+
+pub asked : (task : Task) (job : Job) → AsksFirst task job → IsAsked task job
+asked task job asks =
+    subst (IsAsked task) (sym asks.is)
+    (subst (λ stage. IsAsked (record task { stage = stage }) (first_job task)) (sym asks.first)
+    (asked-first task.spec task.job task.spec.secret))

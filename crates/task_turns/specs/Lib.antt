@@ -1,0 +1,4 @@
+pub mod Shares
+pub mod Names
+pub mod Turns
+pub mod Laws

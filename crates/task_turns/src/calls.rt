@@ -1,0 +1,48 @@
+use keystore_model::Tag;
+use step_core::JobOutput;
+use tree_model::{Blob, Bytes, LocalOp, Place};
+
+/// A counted call of a device, as a task names it.
+#[derive(Drop)]
+pub enum Call {
+    /// An operation on the places of a user.
+    Op {
+        user: u32,
+        op: LocalOp,
+        /// The blob that a directory names which the operation renames, where it names one.
+        names: Option<Blob>,
+    },
+    /// A sync of the tree.
+    Sync,
+    /// A list of the tree's places.
+    List,
+    /// The directory at a place is read.
+    Read(Place),
+    /// The keystore makes an entry of this tag and app id.
+    Generate {
+        tag: Tag,
+        app_id: Bytes,
+    },
+    /// The keystore seals the key under the blob's entry.
+    Encrypt {
+        blob: Blob,
+        app_id: Bytes,
+        nonce: [u8; 12],
+        key: [u8; 64],
+    },
+    /// A list of the keystore's entries.
+    Entries,
+}
+
+/// What a task hears of what it did.
+#[derive(Drop)]
+pub enum Answer {
+    /// It was done, and there is nothing to tell of it.
+    Done,
+    /// The blob of the entry that was made.
+    Blob(Blob),
+    /// The nonce, the ciphertext and its tag: 92 bytes.
+    Sealed(Bytes),
+    /// What the job computed.
+    Output(JobOutput),
+}
