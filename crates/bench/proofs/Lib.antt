@@ -1,0 +1,4 @@
+pub mod Known
+pub mod Listing
+pub mod Named
+pub mod Pushed

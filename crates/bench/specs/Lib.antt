@@ -1,0 +1,4 @@
+pub mod Bench
+pub mod Known
+pub mod Seen
+pub mod Steps
