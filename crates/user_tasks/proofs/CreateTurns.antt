@@ -19,6 +19,7 @@ use Rattle.tree_model.specs.Order.{slot_cmp, slot_total, slot_exact}
 use Rattle.tree_model.specs.Parts.{Part, after_local, filled_local}
 use Rattle.tree_model.specs.Tree.{kind_if, Drop as DropKind}
 use Rattle.tree_model.proofs.Maps.{get-insert_same, get-insert_other}
+use Rattle.journal_model.specs.declared.commands.Reply.{Reply}
 use Rattle.journal_model.specs.declared.commands.Reply.TheVariants.{UserExists}
 use Rattle.journal_model.specs.declared.entries.Birth.{Birth}
 use Rattle.journal_model.specs.declared.entries.Change.TheVariants.{Create as CreateChange}
@@ -47,16 +48,16 @@ use Rattle.user_tasks.specs.Create.{no_files, with_version, with_key, part, curr
 use Rattle.user_tasks.specs.Create.{first_create, CreateTurns}
 use Rattle.user_tasks.specs.Tasks.{Begins}
 
--- two parts are one where they are site by site
-same_parts : (a b : Part) → a De ≡ b De → a (Ce Current) ≡ b (Ce Current) → ((n : ℕ) → a (Ce (Cx n)) ≡ b (Ce (Cx n)))
-    → a Temp ≡ b Temp → a ≡ b
-same_parts a b de current cx temp = λ i site. sites site i
+-- a part with no device directory and no numbered slot is these two directories
+is_part : (a : Part) (current temp : Option Files) → a De ≡ None → a (Ce Current) ≡ current
+    → ((n : ℕ) → a (Ce (Cx n)) ≡ None) → a Temp ≡ temp → a ≡ part current temp
+is_part a current temp de slot cx half = λ i site. sites site i
   where
-    sites : (site : Site) → a site ≡ b site
+    sites : (site : Site) → a site ≡ part current temp site
     sites De = de
-    sites (Ce Current) = current
+    sites (Ce Current) = slot
     sites (Ce (Cx n)) = cx n
-    sites Temp = temp
+    sites Temp = half
 
 -- a directory with its version and its key opens to the key
 opens_to_key : (seed : List ℕ) (class : Class) (user : ℕ) (birth : Birth)
@@ -121,7 +122,7 @@ module _ (seed : List ℕ) (user : ℕ) (birth : Birth) where
       leads = (
         knows-step own (quiet (MakeDir Temp)) None absent,
         (
-          here-step own (quiet (MakeDir Temp)) (part current None) _ here (same_parts _ _ refl refl (λ n. refl) refl),
+          here-step own (quiet (MakeDir Temp)) (part current None) _ here (is_part _ _ _ refl refl (λ n. refl) refl),
           tt,
         ),
       );
@@ -139,7 +140,7 @@ module _ (seed : List ℕ) (user : ℕ) (birth : Birth) where
           keeps = keeps-absent (rehearsal seed) user own (Write Temp file bytes) absent refl;
           leads = (
             knows-step own step None absent,
-            (here-step own step (part current (Some files)) _ here (same_parts _ _ refl refl (λ n. refl) refl), tt),
+            (here-step own step (part current (Some files)) _ here (is_part _ _ _ refl refl (λ n. refl) refl), tt),
           );
         }
 
@@ -205,7 +206,7 @@ module _ (seed : List ℕ) (create : Create) (way : Option Site) (next : Next Cr
       (λ own images clear rests.
       let none = subst (IsNextToClear (own_view own)) nothing clear in
       made seed create.user create.birth own None rests.0
-      (same_parts _ _ (absent-view (rehearsal seed) create.user own images rests.0)
+      (is_part _ None None (absent-view (rehearsal seed) create.user own images rests.0)
       (none (Ce Current) tt) (λ n. none (Ce (Cx n)) tt) (none Temp tt)))
       refl (omega arith) (omega arith)
 
@@ -242,7 +243,7 @@ module _ (seed : List ℕ) (create : Create) (way : Option Site) (next : Next Cr
         keeps = keeps-absent (rehearsal seed) create.user own op rests.1.0 refl;
         leads = (
           knows-step own (quiet op) None rests.1.0,
-          (here-step own (quiet op) _ _ rests.1.1.0 (same_parts _ _ refl refl (λ n. refl) refl), tt),
+          (here-step own (quiet op) _ _ rests.1.1.0 (is_part _ _ _ refl refl (λ n. refl) refl), tt),
         );
       })
       refl (omega arith) (omega arith)
@@ -291,11 +292,11 @@ create-begins user birth = record {
     of_user = refl;
     accepted = refl;
     serves = record { command = refl; birth = refl; changes = refl };
-    facts = (is_none (own_record own) (sym present ∙ none facts.present accepted), tt);
+    facts = (is_none (own_record own) (sym present ∙ none facts.present UserExists accepted), tt);
   };
   few = omega arith;
 }
   where
-    none : (present : Bool) → due present UserExists ≡ None → present ≡ false
-    none true e = cc
-    none false e = refl
+    none : (present : Bool) (reply : Reply) → due present reply ≡ None → present ≡ false
+    none true reply e = cc
+    none false reply e = refl

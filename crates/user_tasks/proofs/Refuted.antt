@@ -1,6 +1,6 @@
 -- Worlds that refute wrong plans.
 use Rattle.std.proofs.Common.{◌≡◌, ◌<◌, ℕ, List, [], ◌∷◌, refl, sym, ap, ◌∙◌, arith}
-use Rattle.std.specs.Prelude.{Some, None}
+use Rattle.std.specs.Prelude.{length, Some, None}
 use Rattle.std.specs.FinMap as map
 use Rattle.std.proofs.lemmas.Option.{none-some, same_Some}
 use Rattle.std.proofs.lemmas.List.Elements.{Contains-push}
@@ -62,9 +62,6 @@ module _ (seed : List ℕ) (user : ℕ) (birth : Birth) where
     facts = facts;
   }
 
-no_cons : {A : Type 0} (x : A) (xs : List A) → x ∷ xs ≡ [] → ⊥
-no_cons x xs e = cc
-
 pub renames-before-sync : RenamesBeforeSync
 renames-before-sync seed user birth turns =
     let own = still (on_way seed user birth with_version) in
@@ -75,10 +72,11 @@ renames-before-sync seed user birth turns =
     let one = always _ (Bytes (0 ∷ []), refl) in
     let same : map.insert with_version EncryptedKey [] ≡ map.insert with_version EncryptedKey (0 ∷ []) =
     same_Some _ _ (ap (λ p. p Temp) (none ∙ sym one)) in
-    no_cons 0 [] (same_Some (0 ∷ []) []
+    let lengths = ap length (same_Some (0 ∷ []) []
     (sym (get-insert_same file_total file_exact with_version EncryptedKey (0 ∷ []))
     ∙ ap (λ files. map.get files EncryptedKey) (sym same)
-    ∙ get-insert_same file_total file_exact with_version EncryptedKey []))
+    ∙ get-insert_same file_total file_exact with_version EncryptedKey [])) in
+    omega (arith, lengths)
 
 pub leaves-out-device : LeavesOutDevice
 leaves-out-device seed user birth turns =
@@ -121,7 +119,8 @@ replies-before-sync seed user birth turns =
     } in
     let shows = turns birth.boot (began_at seed user birth Created) own (refl, through) (tt, refl)
     (rests_at seed user birth Created own (Contains-push [] (Born birth), tt)) in
-    no_cons (Born birth) [] shows.may.1.1
+    let counts = ap length shows.may.1.1 in
+    omega (arith, counts)
   where
     through : (fill : Fill) → PartStands (rehearsal seed) user
         (after_local (on_way seed user birth (with_key seed ForDe user birth)) (filled_local fill (RenameDir Temp De)))

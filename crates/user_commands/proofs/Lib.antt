@@ -1,0 +1,10 @@
+mod Whole
+mod NewUsers
+mod AsideOps
+mod Writing
+mod Placing
+mod CreateTurns
+mod AskedJobs
+mod JobNumbers
+mod Begun
+mod Refuted

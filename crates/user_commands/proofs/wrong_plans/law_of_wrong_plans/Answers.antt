@@ -1,0 +1,12 @@
+use Rattle.user_commands.proofs.Refuted.{replies-before-sync, leaves-out-device, hides-change, hides-blob}
+use Rattle.user_commands.proofs.Refuted.{touches-other}
+use Rattle.user_commands.proofs.wrong_plans.law_of_wrong_plans.Goals as goal
+
+pub returns : goal.returns
+returns c = record {
+  replied = replies-before-sync;
+  left_out = leaves-out-device;
+  hidden = hides-change;
+  unnamed = hides-blob;
+  other = touches-other;
+}

@@ -1,0 +1,6 @@
+pub mod Clearing
+pub mod Create
+pub mod Made
+pub mod Stores
+pub mod Tasks
+pub mod WrongPlans
