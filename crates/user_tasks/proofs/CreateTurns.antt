@@ -1,302 +1,465 @@
 -- Each turn of a create shows what it has to.
-use Rattle.std.proofs.Common.{◌≡◌, ℕ, ◌+◌, ◌<◌, List, [], ◌∷◌, ◌++◌, refl, sym, ap, ◌∙◌, subst, arith}
-use Rattle.std.specs.Prelude.{Bool, true, false, Option, Some, None, is_some}
-use Rattle.std.specs.FinMap as map
-use Rattle.tree_model.specs.declared.places.Class.{Class}
+use Rattle.std.proofs.Common.{◌≡◌, ◌≢◌, ℕ, List, [], ◌∷◌, ◌++◌, refl, sym, ap, ◌∙◌, subst, arith, inl, inr}
+use Rattle.std.specs.Prelude.{false, Option, Some, None, is_some, Result, Ok, Err, IfOk}
+use Rattle.tree_model.specs.declared.blobs.Blob.{Blob}
 use Rattle.tree_model.specs.declared.places.Class.TheVariants.{De as ForDe, Ce as ForCe}
-use Rattle.tree_model.specs.declared.places.Slot.{Slot}
+use Rattle.tree_model.specs.declared.places.Place.TheVariants.{De as DePlace, Ce as CePlace}
 use Rattle.tree_model.specs.declared.places.Slot.TheVariants.{Current, Cx}
-use Rattle.tree_model.specs.declared.files.FileName.{FileName}
-use Rattle.tree_model.specs.declared.files.FileName.TheVariants.{Version, EncryptedKey}
-use Rattle.tree_model.specs.declared.ops.Fill.TheVariants.{Same, Bytes}
 use Rattle.tree_model.specs.declared.sites.Site.{Site}
 use Rattle.tree_model.specs.declared.sites.Site.TheVariants.{De, Ce, Temp}
 use Rattle.tree_model.specs.declared.sites.LocalOp.{LocalOp}
-use Rattle.tree_model.specs.declared.sites.LocalOp.TheVariants.{MakeDir, Write, RenameDir, RemoveDir}
-use Rattle.tree_model.specs.Dir.{Files}
-use Rattle.tree_model.specs.Files.{file_total, file_exact}
-use Rattle.tree_model.specs.Order.{slot_cmp, slot_total, slot_exact}
-use Rattle.tree_model.specs.Parts.{Part, after_local, filled_local}
+use Rattle.tree_model.specs.declared.sites.LocalOp.TheVariants.{RenameDir, RemoveDir}
+use Rattle.tree_model.specs.Sites.{site_of, touches}
 use Rattle.tree_model.specs.Tree.{kind_if, Drop as DropKind}
-use Rattle.tree_model.proofs.Maps.{get-insert_same, get-insert_other}
-use Rattle.journal_model.specs.declared.commands.Reply.{Reply}
-use Rattle.journal_model.specs.declared.commands.Reply.TheVariants.{UserExists}
+use Rattle.keystore_model.specs.declared.entry.Tag.{Tag}
+use Rattle.journal_model.specs.declared.commands.Reply.TheVariants.{Done as DoneReply}
 use Rattle.journal_model.specs.declared.entries.Birth.{Birth}
-use Rattle.journal_model.specs.declared.entries.Change.TheVariants.{Create as CreateChange}
-use Rattle.journal_model.specs.declared.commands.Command.TheVariants.{Create as CreateCommand}
-use Rattle.journal_model.specs.Machine.{AllowsChange}
-use Rattle.journal_model.specs.Refusals.{due}
-use Rattle.journal_model.specs.Users.{Record, new_secrets}
+use Rattle.journal_model.specs.Machine.{AllowsSuccess}
+use Rattle.user_world.specs.declared.changes.LocalChange.{LocalChange}
 use Rattle.user_world.specs.declared.changes.LocalChange.TheVariants.{Born}
-use Rattle.user_world.specs.declared.turns.Call.TheVariants.{Op as OpCall}
-use Rattle.user_world.specs.declared.turns.Next.{Next}
-use Rattle.user_world.specs.declared.turns.Next.TheVariants.{Call as CallNext}
-use Rattle.user_world.specs.Meaning.{OpensTo, PartStands}
-use Rattle.user_world.specs.OwnWorlds.{OwnWorld, quiet, own_view, own_record, OwnImagesStand, Keeps}
-use Rattle.user_world.specs.Facts.{Knows, Here, Always, Holds, AllHold}
-use Rattle.user_world.specs.Turns.{StepShows, adds_local, takes_local}
-use Rattle.tree_model.proofs.Logic.{is_none}
+use Rattle.user_world.specs.OwnWorlds.{OwnWorld, quiet, own_view, OwnImagesStand}
+use Rattle.user_world.specs.Facts.{Logged, Holds}
+use Rattle.user_world.specs.Turns.{IsLogged, AreDurable, StepShows}
 use Rattle.user_world.proofs.OwnWorlds.{keeps-absent, absent-view}
-use Rattle.user_world.proofs.Facts.{knows-step, here-step, logged-step}
-use Rattle.key_directory.specs.Rehearsal.{rehearsal, rehearsal_opening, rehearsal_key, rehearsal_version}
+use Rattle.user_world.proofs.Facts.{later-facts, knows-step}
+use Rattle.key_directory.specs.Vaults.{sealed}
+use Rattle.task_turns.specs.declared.calls.Answer.{Answer}
+use Rattle.task_turns.specs.declared.calls.Answer.TheVariants.{Done, Blob as IsBlob, Sealed, Output}
+use Rattle.task_turns.specs.declared.calls.Call.TheVariants.{Op as OpCall, Sync as SyncCall, List as ListCall, Read}
+use Rattle.task_turns.specs.declared.calls.Call.TheVariants.{Generate, Encrypt, Entries}
+use Rattle.task_turns.specs.declared.next.Next.{Next}
+use Rattle.task_turns.specs.declared.next.Next.TheVariants.{Call as CallNext, Work as WorkNext, Reply as ReplyNext}
+use Rattle.task_turns.specs.Names.{Gains}
+use Rattle.task_turns.specs.Shares.{Share, Has, AllHas, IsHeld}
+use Rattle.task_turns.specs.Turns.{Scene, Cost, Leads, TurnShows, CallShows}
+use Rattle.store_task.specs.declared.turns.StoreSpec.{StoreSpec}
+use Rattle.store_task.specs.declared.stages.Stage.{Stage as StoreStage}
+use Rattle.store_task.specs.declared.stages.Stage.TheVariants.{First, Tied, Generated, Storing}
+use Rattle.store_task.specs.declared.stages.Progress.{Progress}
+use Rattle.store_task.specs.declared.stages.Progress.TheVariants.{Absent, Made, Versioned, Discardable, Named, Keyed}
+use Rattle.store_task.specs.declared.stages.Progress.TheVariants.{Settled, Stored}
+use Rattle.store_task.specs.Task.{Task, held_by, held_at, held_of, progress_of}
+use Rattle.store_task.specs.Task.{AnswersStage}
+use Rattle.store_task.specs.Turns.{TreeShows, PutsInPlace}
+use Rattle.store_task.proofs.HeldBlobs.{sealing-held}
+use Rattle.store_task.proofs.ShownTurns.{off-temp, sealing-stays}
 use Rattle.user_tasks.specs.declared.creates.Stage.{Stage}
-use Rattle.user_tasks.specs.declared.creates.Stage.TheVariants.{Clearing, Made, Versioned, Settled}
-use Rattle.user_tasks.specs.declared.creates.Stage.TheVariants.{Keyed, Renamed, Created}
-use Rattle.user_tasks.specs.declared.creates.Create.{Create}
+use Rattle.user_tasks.specs.declared.creates.Stage.TheVariants.{Clearing, StoringCe, StoringDe, Created, Ended}
 use Rattle.user_tasks.specs.Clearing.{IsNextToClear}
-use Rattle.user_tasks.specs.Create.{no_files, with_version, with_key, part, current_of, facts_at, turns_at, changes_at}
-use Rattle.user_tasks.specs.Create.{first_create, CreateTurns}
-use Rattle.user_tasks.specs.Tasks.{Begins}
+use Rattle.user_tasks.specs.Create.{Creating, Stores, IsStage, IsCreating, IsCreate, create_rest, rest_at}
+use Rattle.user_tasks.specs.Create.{ce_frame, de_frame}
+use Rattle.user_tasks.specs.Create.{sealed_at, after, after_ce, after_de, hears, creates}
+use Rattle.user_tasks.specs.Stores.{op_turn, IsStoreTurn}
+use Rattle.user_tasks.specs.Tasks.{UserTurns}
+use Rattle.user_tasks.proofs.AsideOps.{aside-step, aside-gains, debris-gains, lets-none}
+use Rattle.user_tasks.proofs.Placing.{IsWritten, written-at, ce-put, de-put}
+use Rattle.user_tasks.proofs.Whole.{same-parts}
+use Rattle.user_tasks.proofs.Writing.{leads-to, IsFramed, store-has, framed-shows}
 
--- a part with no device directory and no numbered slot is these two directories
-is_part : (a : Part) (current temp : Option Files) → a De ≡ None → a (Ce Current) ≡ current
-    → ((n : ℕ) → a (Ce (Cx n)) ≡ None) → a Temp ≡ temp → a ≡ part current temp
-is_part a current temp de slot cx half = λ i site. sites site i
-  where
-    sites : (site : Site) → a site ≡ part current temp site
-    sites De = de
-    sites (Ce Current) = slot
-    sites (Ce (Cx n)) = cx n
-    sites Temp = half
+-- the stage stays where the directory isn't at its place
+ce-goes_on : (progress : Progress) → progress ≢ Stored → after_ce progress ≡ StoringCe
+ce-goes_on Absent on = refl
+ce-goes_on Made on = refl
+ce-goes_on Versioned on = refl
+ce-goes_on Discardable on = refl
+ce-goes_on Named on = refl
+ce-goes_on Keyed on = refl
+ce-goes_on Settled on = refl
+ce-goes_on Stored on = absurd (on refl)
 
--- a directory with its version and its key opens to the key
-opens_to_key : (seed : List ℕ) (class : Class) (user : ℕ) (birth : Birth)
-    → (rehearsal_opening seed).opens (with_key seed class user birth) [] ≡ Some (rehearsal_key seed class user birth)
-opens_to_key seed class user birth =
-    let key = rehearsal_key seed class user birth in
-    let version : map.get (with_key seed class user birth) Version ≡ Some rehearsal_version =
-    get-insert_other file_total file_exact with_version EncryptedKey key Version (λ e. cc)
-    ∙ get-insert_same file_total file_exact map.empty Version rehearsal_version in
-    let found : map.get (with_key seed class user birth) EncryptedKey ≡ Some key =
-    get-insert_same file_total file_exact with_version EncryptedKey key in
-    rw (version, found) refl
+de-goes_on : (progress : Progress) → progress ≢ Stored → after_de progress ≡ StoringDe
+de-goes_on Absent on = refl
+de-goes_on Made on = refl
+de-goes_on Versioned on = refl
+de-goes_on Discardable on = refl
+de-goes_on Named on = refl
+de-goes_on Keyed on = refl
+de-goes_on Settled on = refl
+de-goes_on Stored on = absurd (on refl)
 
-module _ (seed : List ℕ) (user : ℕ) (birth : Birth) where
-  abbrev both : Part
-  both = part (current_of seed ForDe user birth) (Some (with_key seed ForDe user birth))
+-- how the stored key is sealed is no matter of the user's world, and its blob is held
+sealed-stays : (spec : StoreSpec) (stage : StoreStage) (share : Share) (own : OwnWorld)
+    → Has (sealed_at spec stage) share → Has (sealed_at spec stage) (record share { own = own })
+sealed-stays spec First share own has = has
+sealed-stays spec (Tied app_id) share own has = has
+sealed-stays spec (Generated app_id blob) share own has = has
+sealed-stays spec (Storing blob text progress) share own has =
+    sealing-stays spec blob text share.vault share.own own has
 
-  abbrev known : Record
-  known = record { birth = birth; secrets = new_secrets }
+sealed-held : (spec : StoreSpec) (stage : StoreStage) → IsHeld (held_at stage) (sealed_at spec stage)
+sealed-held spec First = tt
+sealed-held spec (Tied app_id) = tt
+sealed-held spec (Generated app_id blob) = tt
+sealed-held spec (Storing blob text progress) = sealing-held spec blob text
 
-  -- both directories, renamed into place, stand for the new user
-  pub born : PartStands (rehearsal seed) user (after_local both (RenameDir Temp De)) (Some known)
-  born = record { de = opens_to_key seed ForDe user birth; ce = slots }
-    where
-      key : List ℕ
-      key = rehearsal_key seed ForCe user birth
+module _ (user : ℕ) (birth : Birth) (ce de : Task) where
+  abbrev at : Stage → Creating
+  at stage = record { user = user; birth = birth; ce = ce; de = de; stage = stage }
 
-      slots : (slot : Slot) → OpensTo (rehearsal_opening seed) (part (current_of seed ForDe user birth) None (Ce slot))
-          (map.get new_secrets slot) (rehearsal_key seed ForCe user birth)
-      slots Current =
-          subst (λ secret. OpensTo (rehearsal_opening seed) (Some (with_key seed ForCe user birth)) secret
-          (rehearsal_key seed ForCe user birth))
-          (sym (get-insert_same slot_total slot_exact map.empty Current [])) (opens_to_key seed ForCe user birth)
-      slots (Cx n) =
-          subst (λ secret. OpensTo (rehearsal_opening seed) None secret (rehearsal_key seed ForCe user birth))
-          (sym (get-insert_other slot_total slot_exact map.empty Current [] (Cx n) (λ e. cc)
-          ∙ map.get-empty slot_cmp (Cx n))) tt
-
-  module _ (own : OwnWorld) where
-    keeps-born : Holds (Always both) own
-        → Keeps (rehearsal seed) user own (record { op = RenameDir Temp De; note = Some (Born birth) })
-    keeps-born always = record {
-      keeps = λ left fill is stands.
-          let here : PartStands (rehearsal seed) user (after_local left (RenameDir Temp De)) (Some known) =
-          subst (λ p. PartStands (rehearsal seed) user (after_local p (RenameDir Temp De)) (Some known))
-          (sym (always left is)) born in
-          elim fill as (λ f.
-          PartStands (rehearsal seed) user (after_local left (filled_local f (RenameDir Temp De))) (Some known)) [
-            | Same ↦ here
-            | Bytes other ↦ here
-          ];
+  module _ (ce_stores : Stores user ForCe (CePlace user Current) ce) where
+    ce-framed : IsFramed creates (at StoringCe) (ce_frame (at StoringCe)) ce
+    ce-framed = record {
+      rests = refl;
+      hears = λ answer answers. answers;
+      goes_on = λ answer answers on.
+          ap (λ stage. record (rest_at stage (after (at StoringCe) answer)) { user = user }) (ce-goes_on _ on);
+      owner = ap (λ (tag : Tag). tag.user) ce_stores.tagged;
+      base_held = (tt, (tt, (tt, tt)));
+      base_stays = λ share op has. (knows-step share.own (quiet op) None has.0, (has.1.0, (has.1.1.0, tt)));
+      behind = omega arith;
     }
 
-    -- the temporary directory is made
-    made : (current : Option Files) → Holds (Knows None) own → Holds (Here (part current None)) own
-        → StepShows (rehearsal seed) user own (quiet (MakeDir Temp))
-        (Knows None ∷ Here (part current (Some no_files)) ∷ [])
-    made current absent here = record {
-      fits = ap is_some (ap (λ p. p Temp) here);
-      noted = refl;
-      keeps = keeps-absent (rehearsal seed) user own (MakeDir Temp) absent refl;
-      leads = (
-        knows-step own (quiet (MakeDir Temp)) None absent,
-        (
-          here-step own (quiet (MakeDir Temp)) (part current None) _ here (is_part _ _ _ refl refl (λ n. refl) refl),
-          tt,
-        ),
+  module _ (de_stores : Stores user ForDe (DePlace user) de) where
+    de-framed : IsFramed creates (at StoringDe) (de_frame (at StoringDe)) de
+    de-framed = record {
+      rests = refl;
+      hears = λ answer answers. answers;
+      goes_on = λ answer answers on.
+          ap (λ stage. record (rest_at stage (after (at StoringDe) answer)) { user = user }) (de-goes_on _ on);
+      owner = ap (λ (tag : Tag). tag.user) de_stores.tagged;
+      base_held = (tt, (tt, (tt, (sealed-held ce.spec ce.stage, tt))));
+      base_stays = λ share op has. (
+        knows-step share.own (quiet op) None has.0,
+        (has.1.0, (has.1.1.0, (sealed-stays ce.spec ce.stage share _ has.1.1.1.0, tt))),
       );
+      behind = omega arith;
     }
 
-    -- a file of it is written
-    written : (current : Option Files) (files : Files) (file : FileName) (bytes : List ℕ) → Holds (Knows None) own
-        → Holds (Here (part current (Some files))) own
-        → StepShows (rehearsal seed) user own (quiet (Write Temp file bytes))
-        (Knows None ∷ Here (part current (Some (map.insert files file bytes))) ∷ [])
-    written current files file bytes absent here =
-        let step = quiet (Write Temp file bytes) in record {
-          fits = ap is_some (ap (λ p. p Temp) here);
-          noted = refl;
-          keeps = keeps-absent (rehearsal seed) user own (Write Temp file bytes) absent refl;
-          leads = (
-            knows-step own step None absent,
-            (here-step own step (part current (Some files)) _ here (is_part _ _ _ refl refl (λ n. refl) refl), tt),
-          );
-        }
+-- the renames, of tasks that are so far
+module _ (user : ℕ) (birth : Birth) where
+  abbrev PutsCe : Task → Task → Type 0
+  PutsCe ce de = (scene : Scene) (named : Option Blob)
+      → AllHas (create_rest (at user birth ce de StoringCe)).facts scene.share
+      → Stores user ForDe (DePlace user) de → IsCreate user birth StoringCe scene.boot scene.began
+      → TreeShows ce scene.share (RenameDir Temp (Ce Current)) → held_by named ≡ held_of ce
+      → CallShows creates (at user birth ce de StoringCe) scene (OpCall user (RenameDir Temp (Ce Current)) named) None
 
-    -- what is in the way is removed
-    removes : OwnImagesStand (rehearsal seed) user own → (site : Site) → IsNextToClear (own_view own) (Some site)
-        → Holds (Knows None) own → StepShows (rehearsal seed) user own (quiet (RemoveDir site)) (Knows None ∷ [])
-    removes images De clear absent = absurd clear.0
-    removes images (Ce slot) clear absent = record {
-      fits = clear.1;
-      noted = ap (λ found. kind_if (is_some found) DropKind) (absent-view (rehearsal seed) user own images absent);
-      keeps = keeps-absent (rehearsal seed) user own (RemoveDir (Ce slot)) absent refl;
-      leads = (knows-step own (quiet (RemoveDir (Ce slot))) None absent, tt);
-    }
-    removes images Temp clear absent = record {
-      fits = clear.1;
-      noted = refl;
-      keeps = keeps-absent (rehearsal seed) user own (RemoveDir Temp) absent refl;
-      leads = (knows-step own (quiet (RemoveDir Temp)) None absent, tt);
-    }
+  puts-ce : (ce de : Task) → IsWritten ce Settled → de.stage ≡ First → PutsCe ce de
+  puts-ce ce de written first =
+      subst (λ stage. PutsCe (record ce { stage = stage }) de) (sym written.stage)
+      (subst (λ stage. PutsCe (record ce { stage = Storing (Some written.blob) written.text Settled })
+      (record de { stage = stage })) (sym first)
+      (λ scene named has stores serves shows holds.
+      ce-put user birth ce.spec de.spec ce.job de.job written.blob written.text scene has named stores serves shows
+      holds written.long))
 
--- the turn of a create at a stage, from what its user's world has to show of it
-module _ (seed : List ℕ) (create : Create) (way : Option Site) (next : Next Create) where
-  at_stage : (stage : Stage) → create.stage ≡ stage → CreateTurns seed (record create { stage = stage }) way next
-      → CreateTurns seed create way next
-  at_stage stage is turns = subst (λ s. CreateTurns seed (record create { stage = s }) way next) (sym is) turns
+  abbrev PutsDe : Task → Task → Type 0
+  PutsDe ce de = (scene : Scene) (named : Option Blob)
+      → AllHas (create_rest (at user birth ce de StoringDe)).facts scene.share
+      → Stores user ForCe (CePlace user Current) ce → Stores user ForDe (DePlace user) de
+      → IsCreate user birth StoringDe scene.boot scene.began
+      → TreeShows de scene.share (RenameDir Temp De) → held_by named ≡ held_of de
+      → CallShows creates (at user birth ce de StoringDe) scene (OpCall user (RenameDir Temp De) named)
+      (Some (Born birth))
 
-  -- an operation with no change
-  quiet-turn : (stage then : Stage) → create.stage ≡ stage → (op : LocalOp)
-      → next ≡ CallNext (OpCall create.user op) None (record create { stage = then })
-      → ((own : OwnWorld) → OwnImagesStand (rehearsal seed) create.user own → IsNextToClear (own_view own) way
-      → AllHold (facts_at seed create.user create.birth stage) own
-      → StepShows (rehearsal seed) create.user own (quiet op) (facts_at seed create.user create.birth then))
-      → changes_at then create.user create.birth ≡ changes_at stage create.user create.birth
-      → turns_at then + adds_local op < turns_at stage + takes_local op → 1 < turns_at stage
-      → CreateTurns seed create way next
-  quiet-turn stage then is op named stands changes falls lasts =
-      at_stage stage is (subst (CreateTurns seed (record create { stage = stage }) way) (sym named)
-      (λ boot began own images clear rests. record {
-        stands = (refl, stands own images clear rests.facts);
-        may = tt;
-        serves = record {
-          command = rests.serves.command;
-          birth = rests.serves.birth;
-          changes = rests.serves.changes ∙ sym changes;
-        };
-        same_user = refl;
-        falls = falls;
-        lasts = lasts;
-      }))
+  puts-de : (ce de : Task) → IsWritten ce Stored → IsWritten de Settled → PutsDe ce de
+  puts-de ce de stored written =
+      subst (λ stage. PutsDe (record ce { stage = stage }) de) (sym stored.stage)
+      (subst (λ stage. PutsDe (record ce { stage = Storing (Some stored.blob) stored.text Stored })
+      (record de { stage = stage })) (sym written.stage)
+      (λ scene named has ce_stores de_stores serves shows holds.
+      de-put user birth ce.spec de.spec ce.job de.job stored.blob written.blob stored.text written.text scene has
+      ce_stores de_stores named serves shows holds))
 
-  pub clear-turn : (site : Site) → create.stage ≡ Clearing → way ≡ Some site
-      → next ≡ CallNext (OpCall create.user (RemoveDir site)) None (record create { stage = Clearing })
-      → CreateTurns seed create way next
-  clear-turn site is first named = quiet-turn Clearing Clearing is (RemoveDir site) named
-      (λ own images clear rests.
-      removes seed create.user create.birth own images site (subst (IsNextToClear (own_view own)) first clear) rests.0)
-      refl (omega arith) (omega arith)
+module _ (user : ℕ) (birth : Birth) (ce de : Task) (ce_stores : Stores user ForCe (CePlace user Current) ce)
+    (de_stores : Stores user ForDe (DePlace user) de) (scene : Scene) where
+  -- the turns of the credential key's task
+  module _ (first : de.stage ≡ First) (has : AllHas (create_rest (at user birth ce de StoringCe)).facts scene.share)
+      (serves : IsCreate user birth StoringCe scene.boot scene.began) where
+    ce-placed : (named : Option Blob) → held_by named ≡ held_of ce → (op : LocalOp) → TreeShows ce scene.share op
+        → PutsInPlace ce op
+        → TurnShows creates (at user birth ce de StoringCe) scene (op_turn user op named None)
+    ce-placed named holds op shows puts =
+        let is : op ≡ RenameDir Temp (Ce Current) =
+        puts.renames ∙ ap (λ place. RenameDir Temp (site_of place)) ce_stores.placed in
+        subst (λ o. TurnShows creates (at user birth ce de StoringCe) scene (op_turn user o named None)) (sym is)
+        (puts-ce user birth ce de
+        (written-at ce.spec ce.job ce.stage Settled ce_stores.whole ce_stores.bare (λ e. cc) puts.synced) first scene
+        named has de_stores serves (subst (TreeShows ce scene.share) is shows) holds)
 
-  pub make_ce-turn : create.stage ≡ Clearing → way ≡ None
-      → next ≡ CallNext (OpCall create.user (MakeDir Temp)) None (record create { stage = Made ForCe })
-      → CreateTurns seed create way next
-  make_ce-turn is nothing named = quiet-turn Clearing (Made ForCe) is (MakeDir Temp) named
-      (λ own images clear rests.
-      let none = subst (IsNextToClear (own_view own)) nothing clear in
-      made seed create.user create.birth own None rests.0
-      (is_part _ None None (absent-view (rehearsal seed) create.user own images rests.0)
-      (none (Ce Current) tt) (λ n. none (Ce (Cx n)) tt) (none Temp tt)))
-      refl (omega arith) (omega arith)
+    ce-shows : (next : Next) → IsStoreTurn user ce None next
+        → TurnShows creates (at user birth ce de StoringCe) scene next
+    ce-shows next turn =
+        let framed = ce-framed user birth ce de ce_stores in
+        let frame = ce_frame (at user birth ce de StoringCe) in
+        subst (TurnShows creates (at user birth ce de StoringCe) scene) (sym turn.is)
+        (framed-shows creates (at user birth ce de StoringCe) frame ce framed scene has serves turn.doing turn.named
+        None turn.shows.0
+        (turn.shows.1 scene.share
+        (store-has creates (at user birth ce de StoringCe) frame ce framed scene has serves))
+        (ce-placed turn.named turn.holds))
 
-  pub version-turn : (class : Class) → create.stage ≡ Made class
-      → next ≡ CallNext (OpCall create.user (Write Temp Version rehearsal_version)) None
-      (record create { stage = Versioned class })
-      → CreateTurns seed create way next
-  version-turn class is named =
-      quiet-turn (Made class) (Versioned class) is (Write Temp Version rehearsal_version) named
-      (λ own images clear rests. written seed create.user create.birth own
-      (current_of seed class create.user create.birth) no_files Version rehearsal_version rests.0 rests.1.0)
-      refl (omega arith) (omega arith)
+  -- and those of the device key's
+  module _ (stored : progress_of ce.stage ≡ Stored)
+      (has : AllHas (create_rest (at user birth ce de StoringDe)).facts scene.share)
+      (serves : IsCreate user birth StoringDe scene.boot scene.began) where
+    de-placed : (named : Option Blob) → held_by named ≡ held_of de → (op : LocalOp) → TreeShows de scene.share op
+        → PutsInPlace de op
+        → TurnShows creates (at user birth ce de StoringDe) scene (op_turn user op named (Some (Born birth)))
+    de-placed named holds op shows puts =
+        let is : op ≡ RenameDir Temp De =
+        puts.renames ∙ ap (λ place. RenameDir Temp (site_of place)) de_stores.placed in
+        subst (λ o. TurnShows creates (at user birth ce de StoringDe) scene
+        (op_turn user o named (Some (Born birth)))) (sym is)
+        (puts-de user birth ce de
+        (written-at ce.spec ce.job ce.stage Stored ce_stores.whole ce_stores.bare (λ e. cc) stored)
+        (written-at de.spec de.job de.stage Settled de_stores.whole de_stores.bare (λ e. cc) puts.synced) scene named
+        has ce_stores de_stores serves (subst (TreeShows de scene.share) is shows) holds)
 
-  pub key-turn : (class : Class) → create.stage ≡ Versioned class →
-      let key = rehearsal_key seed class create.user create.birth in
-      next ≡ CallNext (OpCall create.user (Write Temp EncryptedKey key)) None (record create { stage = Keyed class })
-      → CreateTurns seed create way next
-  key-turn class is named =
-      let key = rehearsal_key seed class create.user create.birth in
-      quiet-turn (Versioned class) (Keyed class) is (Write Temp EncryptedKey key) named
-      (λ own images clear rests. written seed create.user create.birth own
-      (current_of seed class create.user create.birth) with_version EncryptedKey key rests.0 rests.1.0)
-      refl (omega arith) (omega arith)
+    de-shows : (next : Next) → IsStoreTurn user de (Some (Born birth)) next
+        → TurnShows creates (at user birth ce de StoringDe) scene next
+    de-shows next turn =
+        let framed = de-framed user birth ce de de_stores in
+        let frame = de_frame (at user birth ce de StoringDe) in
+        subst (TurnShows creates (at user birth ce de StoringDe) scene) (sym turn.is)
+        (framed-shows creates (at user birth ce de StoringDe) frame de framed scene has serves turn.doing turn.named
+        (Some (Born birth)) turn.shows.0
+        (turn.shows.1 scene.share
+        (store-has creates (at user birth ce de StoringDe) frame de framed scene has serves))
+        (de-placed turn.named turn.holds))
 
-  pub rename_ce-turn : create.stage ≡ Settled ForCe
-      → next ≡ CallNext (OpCall create.user (RenameDir Temp (Ce Current))) None (record create { stage = Renamed })
-      → CreateTurns seed create way next
-  rename_ce-turn is named =
-      let op = RenameDir Temp (Ce Current) in
-      quiet-turn (Settled ForCe) Renamed is op named
-      (λ own images clear rests. record {
-        fits = (ap is_some (ap (λ p. p Temp) rests.1.1.0), ap is_some (ap (λ p. p (Ce Current)) rests.1.1.0));
-        noted = refl;
-        keeps = keeps-absent (rehearsal seed) create.user own op rests.1.0 refl;
-        leads = (
-          knows-step own (quiet op) None rests.1.0,
-          (here-step own (quiet op) _ _ rests.1.1.0 (is_part _ _ _ refl refl (λ n. refl) refl), tt),
-        );
+-- what was begun in the stage before
+module _ (user : ℕ) (birth : Birth) (ce de : Task) (scene : Scene) where
+  leads-cleared : (answer : Answer) (note : Option LocalChange) (cost : Cost) (share : Share)
+      → hears (at user birth ce de Clearing) answer
+      → after (at user birth ce de Clearing) answer ≡ after (at user birth ce de StoringCe) answer
+      → Leads creates (at user birth ce de StoringCe) answer scene note cost share
+      → Leads creates (at user birth ce de Clearing) answer scene note cost share
+  leads-cleared answer note cost share heard same leads =
+      leads-to creates (at user birth ce de Clearing) answer heard refl (ap create_rest same)
+      (record {
+        facts = leads.facts;
+        known = leads.known;
+        serves = leads.serves;
+        same_user = leads.same_user;
+        falls = leads.falls;
+        makes = leads.makes;
+        draws = leads.draws;
       })
-      refl (omega arith) (omega arith)
 
-  pub make_de-turn : create.stage ≡ Renamed
-      → next ≡ CallNext (OpCall create.user (MakeDir Temp)) None (record create { stage = Made ForDe })
-      → CreateTurns seed create way next
-  make_de-turn is named = quiet-turn Renamed (Made ForDe) is (MakeDir Temp) named
-      (λ own images clear rests.
-      made seed create.user create.birth own (current_of seed ForDe create.user create.birth) rests.0 rests.1.0)
-      refl (omega arith) (omega arith)
+  module _ (first : ce.stage ≡ First) where
+    not-done : AnswersStage ce.spec.secret ce.stage Done → ⊥
+    not-done answers = subst (λ stage. AnswersStage ce.spec.secret stage Done) first answers
 
-  pub rename_de-turn : create.stage ≡ Settled ForDe
-      → next ≡ CallNext (OpCall create.user (RenameDir Temp De)) (Some (Born create.birth))
-      (record create { stage = Created })
-      → CreateTurns seed create way next
-  rename_de-turn is named =
-      at_stage (Settled ForDe) is (subst (CreateTurns seed (record create { stage = Settled ForDe }) way) (sym named)
-      (λ boot began own images clear rests. record {
-        stands = (
-          refl,
-          record {
-            fits = (ap is_some (ap (λ p. p Temp) rests.facts.1.1.0), ap is_some (ap (λ p. p De) rests.facts.1.1.0));
-            noted = refl;
-            keeps = keeps-born seed create.user create.birth own rests.facts.0;
-            leads = (logged-step own (RenameDir Temp De) (Born create.birth), tt);
-          },
-        );
-        may = subst (λ command. AllowsChange boot began command (CreateChange create.user create.birth))
-            (sym rests.serves.command) (rests.serves.changes, ap (CreateChange create.user) rests.serves.birth);
-        serves = record {
-          command = rests.serves.command;
-          birth = rests.serves.birth;
-          changes = ap (λ changes. changes ++ CreateChange create.user create.birth ∷ []) rests.serves.changes;
+    none-held : (gains : List Blob) → held_of ce ++ gains ≡ gains
+    none-held gains = ap (λ stage. held_at stage ++ gains) first
+
+    as-cleared : (next : Next) → TurnShows creates (at user birth ce de StoringCe) scene next
+        → TurnShows creates (at user birth ce de Clearing) scene next
+    as-cleared (CallNext (OpCall owner op names) change) shows = absurd (not-done shows.stands.leads.hears)
+    as-cleared (CallNext SyncCall change) shows = absurd (not-done shows.stands.leads.hears)
+    as-cleared (CallNext ListCall change) shows = absurd shows.stands
+    as-cleared (CallNext (Read place) change) shows = absurd shows.stands
+    as-cleared (CallNext (Generate tag app_id) change) shows = record {
+      stands = record {
+        quiet = shows.stands.quiet;
+        tagged = shows.stands.tagged;
+        each = λ blob key long none.
+            let each = shows.stands.each blob key long none in record {
+              held = each.held ∙ none-held (blob ∷ []);
+              leads = leads-cleared (IsBlob blob) None _ _ each.leads.hears refl each.leads;
+            };
+      };
+      may = shows.may;
+      lasts = shows.lasts;
+    }
+    as-cleared (CallNext (Encrypt blob app_id nonce key) change) shows = record {
+      stands = (
+        shows.stands.0,
+        record {
+          under = shows.stands.1.under;
+          held = shows.stands.1.held ∙ ap held_at first;
+          leads = leads-cleared (Sealed _) None _ _ shows.stands.1.leads.hears refl shows.stands.1.leads;
+        },
+      );
+      may = shows.may;
+      lasts = shows.lasts;
+    }
+    as-cleared (CallNext Entries change) shows = absurd shows.stands
+    as-cleared (WorkNext job) shows = record {
+      held = shows.held ∙ ap held_at first;
+      leads = leads-cleared (Output _) None _ _ shows.leads.hears refl shows.leads;
+    }
+    as-cleared (ReplyNext reply) shows = record {
+      success = shows.success;
+      may = shows.may;
+      lasts = shows.lasts;
+      held = refl;
+    }
+
+aside-temp : (site : Site) → site ≢ Temp → touches (RemoveDir Temp) site ≡ false
+aside-temp site away = off-temp site away
+
+-- the turns of a create, by its stage
+module _ (create : Creating) (is : IsCreating create) (way : Option Site) where
+  abbrev pub staged : Stage → Creating
+  staged stage = record create { stage = stage }
+
+  at-stage : (stage : Stage) (next : Next) → create.stage ≡ stage → UserTurns (staged stage) way next
+      → UserTurns create way next
+  at-stage stage next here turns = subst (λ s. UserTurns (staged s) way next) (sym here) turns
+
+  pub stage-fits : (stage : Stage) → create.stage ≡ stage → IsStage create.ce create.de stage
+  stage-fits stage here = subst (IsStage create.ce create.de) here is.stage
+
+  -- what is in the way is removed
+  module _ (scene : Scene) (images : OwnImagesStand (sealed scene.share.vault) create.user scene.share.own)
+      (has : AllHas (create_rest (staged Clearing)).facts scene.share) where
+    no-device : own_view scene.share.own De ≡ None
+    no-device = absent-view (sealed scene.share.vault) create.user scene.share.own images has.0
+
+    removes : (site : Site) → IsNextToClear (own_view scene.share.own) (Some site)
+        → StepShows (sealed scene.share.vault) create.user scene.share.own (quiet (RemoveDir site)) []
+    removes De clear = absurd clear.0
+    removes (Ce slot) clear = record {
+      fits = clear.1;
+      noted = ap (λ found. kind_if (is_some found) DropKind) no-device;
+      keeps = keeps-absent (sealed scene.share.vault) create.user scene.share.own (RemoveDir (Ce slot)) has.0 refl;
+      leads = tt;
+    }
+    removes Temp clear = aside-step (sealed scene.share.vault) create.user scene.share.own (RemoveDir Temp) aside-temp
+        clear.1
+
+    removes-gains : (site : Site) → IsNextToClear (own_view scene.share.own) (Some site)
+        → Gains scene.share.own (RemoveDir site) []
+    removes-gains De clear = absurd clear.0
+    removes-gains (Ce slot) clear = debris-gains scene.share.own slot no-device
+    removes-gains Temp clear = aside-gains scene.share.own (RemoveDir Temp) aside-temp
+
+    clear-shows : (site : Site) → IsNextToClear (own_view scene.share.own) (Some site)
+        → IsCreate create.user create.birth Clearing scene.boot scene.began
+        → CallShows creates (staged Clearing) scene (OpCall create.user (RemoveDir site) None) None
+    clear-shows site clear serves = record {
+      stands = record {
+        mine = refl;
+        step = removes site clear;
+        brings = record { brings = refl; long = tt };
+        gains = [];
+        gained = removes-gains site clear;
+        lets_go = lets-none [] [] refl;
+        held = inl refl;
+        leads = leads-to creates (staged Clearing) Done tt refl refl (record {
+          facts = (
+            knows-step scene.share.own (quiet (RemoveDir site)) None has.0,
+            (has.1.0, (has.1.1.0, tt)),
+          );
+          known = (tt, (tt, (tt, tt)));
+          serves = serves;
+          same_user = refl;
+          falls = omega arith;
+          makes = omega arith;
+          draws = omega arith;
+        });
+      };
+      may = tt;
+      lasts = omega arith;
+    }
+
+    -- with nothing in the way the credential key's task rests
+    abbrev begun_at : StoreStage → Creating
+    begun_at stage = record (staged StoringCe) { ce = record create.ce { stage = stage } }
+
+    pub begun-has : create.ce.stage ≡ First → IsNextToClear (own_view scene.share.own) None
+        → AllHas (create_rest (staged StoringCe)).facts scene.share
+    begun-has first clear =
+        subst (λ stage. AllHas (create_rest (begun_at stage)).facts scene.share) (sym first) (
+          has.0,
+          (
+            has.1.0,
+            (
+              has.1.1.0,
+              (
+                same-parts _ _ no-device (clear (Ce Current) tt) (λ n. clear (Ce (Cx n)) tt) (clear Temp tt),
+                (
+                  clear Temp tt,
+                  (
+                    subst (λ place. own_view scene.share.own (site_of place) ≡ None) (sym is.ce.placed)
+                        (clear (Ce Current) tt),
+                    tt,
+                  ),
+                ),
+              ),
+            ),
+          ),
+        )
+
+  pub clear-turn : (site : Site) (next : Next) → create.stage ≡ Clearing → way ≡ Some site
+      → next ≡ CallNext (OpCall create.user (RemoveDir site) None) None
+      → UserTurns create way next
+  clear-turn site next here first named = at-stage Clearing next here
+      (λ scene images clear rests. subst (TurnShows creates (staged Clearing) scene) (sym named)
+      (clear-shows scene images rests.facts site (subst (IsNextToClear (own_view scene.share.own)) first clear)
+      rests.serves))
+
+  pub begin-turn : (next : Next) → create.stage ≡ Clearing → way ≡ None → IsStoreTurn create.user create.ce None next
+      → UserTurns create way next
+  begin-turn next here nothing turn = at-stage Clearing next here
+      (λ scene images clear rests.
+      let stages = stage-fits Clearing here in
+      as-cleared create.user create.birth create.ce create.de scene stages.0 next
+      (ce-shows create.user create.birth create.ce create.de is.ce is.de scene stages.1
+      (begun-has scene images rests.facts stages.0 (subst (IsNextToClear (own_view scene.share.own)) nothing clear))
+      (record { command = rests.serves.command; born = rests.serves.born; changes = rests.serves.changes }) next turn))
+
+  pub ce-turn : (next : Next) → create.stage ≡ StoringCe → IsStoreTurn create.user create.ce None next
+      → UserTurns create way next
+  ce-turn next here turn = at-stage StoringCe next here
+      (λ scene images clear rests.
+      ce-shows create.user create.birth create.ce create.de is.ce is.de scene (stage-fits StoringCe here).1 rests.facts
+      rests.serves next turn)
+
+  pub de-turn : (next : Next) → create.stage ≡ StoringDe
+      → IsStoreTurn create.user create.de (Some (Born create.birth)) next
+      → UserTurns create way next
+  de-turn next here turn = at-stage StoringDe next here
+      (λ scene images clear rests.
+      de-shows create.user create.birth create.ce create.de is.ce is.de scene (stage-fits StoringDe here).0 rests.facts
+      rests.serves next turn)
+
+  -- the sync behind the last rename
+  pub sync-turn : (next : Next) → create.stage ≡ Created → next ≡ CallNext SyncCall None → UserTurns create way next
+  sync-turn next here named = subst (UserTurns create way) (sym named) (at-stage Created (CallNext SyncCall None) here
+      (λ scene images clear rests. record {
+        stands = record {
+          quiet = refl;
+          held = refl;
+          leads = leads-to creates (staged Created) Done refl refl refl (record {
+            facts = (
+              (later-facts (Logged (Born create.birth) ∷ []) scene.share.own _ (inr refl) (rests.facts.0, tt)).0,
+              (refl, tt),
+            );
+            known = (tt, (tt, tt));
+            serves = record {
+              command = rests.serves.command;
+              born = rests.serves.born;
+              changes = rests.serves.changes;
+            };
+            same_user = refl;
+            falls = omega arith;
+            makes = omega arith;
+            draws = omega arith;
+          });
         };
-        same_user = refl;
-        falls = omega arith;
+        may = tt;
         lasts = omega arith;
       }))
 
--- a create begins where its user isn't there
-pub create-begins : (user : ℕ) (birth : Birth) → Begins (CreateCommand user) birth (first_create user birth)
-create-begins user birth = record {
-  owned = refl;
-  rests = λ seed facts own present accepted. record {
-    of_user = refl;
-    accepted = refl;
-    serves = record { command = refl; birth = refl; changes = refl };
-    facts = (is_none (own_record own) (sym present ∙ none facts.present UserExists accepted), tt);
-  };
-  few = omega arith;
-}
-  where
-    none : (present : Bool) (reply : Reply) → due present reply ≡ None → present ≡ false
-    none true reply e = cc
-    none false reply e = refl
+  pub reply-turn : create.stage ≡ Ended → UserTurns create way (ReplyNext DoneReply)
+  reply-turn here = at-stage Ended (ReplyNext DoneReply) here
+      (λ scene images clear rests. record {
+        success = refl;
+        may = subst (λ command. AllowsSuccess (IsLogged create.user scene.share.own)
+            (AreDurable create.user scene.share.own) scene.boot scene.began command DoneReply)
+            (sym rests.serves.command) (
+              (refl, subst (λ birth. Holds (Logged (Born birth)) scene.share.own) rests.serves.born rests.facts.0),
+              (refl, rests.facts.1.0),
+            );
+        lasts = omega arith;
+        held = refl;
+      })
+
+-- an answer that takes memory
+pub turns-given : {E : Type 0} (P Q : Next → Type 0) (result : Result Next E) → IfOk result P
+    → ((next : Next) → P next → Q next) → IfOk result Q
+turns-given P Q (Ok next) given turns = turns next given
+turns-given P Q (Err fault) given turns = tt

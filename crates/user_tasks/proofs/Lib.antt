@@ -1,2 +1,10 @@
-pub mod CreateTurns
-pub mod Refuted
+mod Whole
+mod NewUsers
+mod AsideOps
+mod Writing
+mod Placing
+mod CreateTurns
+mod AskedJobs
+mod JobNumbers
+mod Begun
+mod Refuted

@@ -1,129 +1,263 @@
--- Worlds that refute wrong plans.
-use Rattle.std.proofs.Common.{◌≡◌, ◌<◌, ℕ, List, [], ◌∷◌, refl, sym, ap, ◌∙◌, arith}
-use Rattle.std.specs.Prelude.{length, Some, None}
-use Rattle.std.specs.FinMap as map
-use Rattle.std.proofs.lemmas.Option.{none-some, same_Some}
-use Rattle.std.proofs.lemmas.List.Elements.{Contains-push}
-use Rattle.tree_model.specs.declared.places.Class.TheVariants.{De as ForDe}
-use Rattle.tree_model.specs.declared.files.FileName.TheVariants.{Version, EncryptedKey}
-use Rattle.tree_model.specs.declared.ops.Fill.{Fill}
-use Rattle.tree_model.specs.declared.ops.Fill.TheVariants.{Same, Bytes}
-use Rattle.tree_model.specs.declared.sites.Site.TheVariants.{Temp, De}
+-- Scenes that refute wrong plans.
+use Rattle.std.proofs.Common.{◌≡◌, cond, List, [], ◌∷◌, length, refl, sym, ap, ◌∙◌, subst, inl, inr}
+use Rattle.std.specs.Prelude.{Some, None, Contains}
+use Rattle.std.proofs.lemmas.Option.{none-some}
+use Rattle.tree_model.specs.declared.blobs.Blob.{Blob}
+use Rattle.tree_model.specs.declared.places.Class.{Class}
+use Rattle.tree_model.specs.declared.places.Class.TheVariants.{De as ForDe, Ce as ForCe}
+use Rattle.tree_model.specs.declared.sites.Site.TheVariants.{De, Temp}
 use Rattle.tree_model.specs.declared.sites.LocalOp.TheVariants.{RenameDir}
 use Rattle.tree_model.specs.Dir.{Files}
-use Rattle.tree_model.specs.Files.{file_cmp, file_total, file_exact}
-use Rattle.tree_model.specs.Parts.{Part, after_local, filled_local}
-use Rattle.tree_model.proofs.Maps.{get-insert_same}
+use Rattle.tree_model.specs.Parts.{Part, after_local}
 use Rattle.journal_model.specs.declared.commands.Command.TheVariants.{Create as CreateCommand}
-use Rattle.journal_model.specs.declared.entries.Birth.{Birth}
-use Rattle.journal_model.specs.Machine.{Running as Began}
+use Rattle.journal_model.specs.Made.{made, key_of, nonce_of, discardable_of}
+use Rattle.journal_model.specs.Hashes.{app_id_of}
 use Rattle.journal_model.specs.Users.{new_secrets}
+use Rattle.journal_model.proofs.Streams.{length-stream_bytes}
+use Rattle.keystore_model.specs.declared.entry.StoreEntry.{StoreEntry}
+use Rattle.keystore_model.specs.Store.{entry_of}
+use Rattle.keystore_model.proofs.Elements.{Contains-none, Contains-first, Contains-rest, Contains-cases}
+use Rattle.keystore_model.proofs.Stores.{bytes-same, bytes-apart}
 use Rattle.user_world.specs.declared.changes.LocalChange.TheVariants.{Born}
 use Rattle.user_world.specs.Meaning.{PartStands}
-use Rattle.user_world.specs.OwnWorlds.{OwnWorld}
-use Rattle.user_world.specs.Facts.{AllHold}
-use Rattle.user_world.specs.Turns.{Rests}
-use Rattle.key_directory.specs.Rehearsal.{rehearsal, rehearsal_key, if_version}
+use Rattle.user_world.specs.OwnWorlds.{OwnWorld, OwnImagesStand}
+use Rattle.blob_custody.proofs.Renamings.{whole-rename}
+use Rattle.key_directory.specs.Vaults.{Vault, sealed}
+use Rattle.task_turns.specs.Shares.{IsSealedFor}
+use Rattle.task_turns.specs.Turns.{IsOwned, Scene, Rests}
+use Rattle.store_task.specs.declared.stages.Progress.{Progress}
+use Rattle.store_task.specs.declared.stages.Progress.TheVariants.{Settled, Stored}
+use Rattle.store_task.specs.Task.{IsTask, all_files}
+use Rattle.store_task.proofs.StoredFiles.{files-named}
 use Rattle.user_tasks.specs.declared.creates.Stage.{Stage}
-use Rattle.user_tasks.specs.declared.creates.Stage.TheVariants.{Made, Versioned, Settled, Renamed, Created}
-use Rattle.user_tasks.specs.Create.{no_files, with_version, with_key, part}
-use Rattle.user_tasks.specs.Create.{current_of, facts_at, changes_at, create_rest}
-use Rattle.user_tasks.specs.WrongPlans.{create_at, RenamesBeforeSync, RepliesBeforeSync, RenamesEmpty, LeavesOutDevice}
-use Rattle.user_tasks.specs.WrongPlans.{HidesChange, TouchesOther}
-use Rattle.user_tasks.proofs.CreateTurns.{born}
+use Rattle.user_tasks.specs.declared.creates.Stage.TheVariants.{StoringDe, Created}
+use Rattle.user_tasks.specs.Create.{create_rest, changes_at}
+use Rattle.user_tasks.specs.Stores.{part}
+use Rattle.user_tasks.specs.WrongPlans.{Plan, spec_of, text_of, blob_of, task_at, create_at, RepliesBeforeSync}
+use Rattle.user_tasks.specs.WrongPlans.{LeavesOutDevice, HidesChange, HidesBlob, TouchesOther}
+use Rattle.user_tasks.proofs.NewUsers.{IsKept, born}
 
--- a world with nothing pending
-abbrev still : Part → OwnWorld
-still held = record { stable = held; durable = []; pending = [] }
-
-module _ (seed : List ℕ) (user : ℕ) (birth : Birth) where
-  abbrev began_at : Stage → Began
-  began_at stage =
-      record {
-        command = CreateCommand user;
-        verdict = None;
-        changes = changes_at stage user birth;
-        index = birth.index;
-      }
-
-  -- the device key's directory is on its way, behind that of the credential key
-  abbrev on_way : Files → Part
-  on_way files = part (current_of seed ForDe user birth) (Some files)
-
-  abbrev between : Part
-  between = part (current_of seed ForDe user birth) None
-
-  rests_at : (stage : Stage) (own : OwnWorld) → AllHold (facts_at seed user birth stage) own
-      → Rests (create_rest seed (create_at user birth stage)) birth.boot (began_at stage) own
-  rests_at stage own facts = record {
-    of_user = refl;
-    accepted = refl;
-    serves = record { command = refl; birth = refl; changes = refl };
-    facts = facts;
+module _ (plan : Plan) where
+  -- the entries of both keys, whose own keys have no bytes
+  abbrev entry_for : Class → StoreEntry
+  entry_for class = record {
+    blob = blob_of plan class;
+    level = 0;
+    app_id = app_id_of (spec_of plan class).discard [];
+    key = [];
+    tag = record { user = plan.user; class = class };
   }
 
-pub renames-before-sync : RenamesBeforeSync
-renames-before-sync seed user birth turns =
-    let own = still (on_way seed user birth with_version) in
-    let shows = turns birth.boot (began_at seed user birth (Versioned ForDe)) own refl (tt, refl)
-    (rests_at seed user birth (Versioned ForDe) own (refl, (refl, tt))) in
-    let always = shows.stands.1.leads.0 in
-    let none = always _ (Bytes [], refl) in
-    let one = always _ (Bytes (0 ∷ []), refl) in
-    let same : map.insert with_version EncryptedKey [] ≡ map.insert with_version EncryptedKey (0 ∷ []) =
-    same_Some _ _ (ap (λ p. p Temp) (none ∙ sym one)) in
-    let lengths = ap length (same_Some (0 ∷ []) []
-    (sym (get-insert_same file_total file_exact with_version EncryptedKey (0 ∷ []))
-    ∙ ap (λ files. map.get files EncryptedKey) (sym same)
-    ∙ get-insert_same file_total file_exact with_version EncryptedKey [])) in
-    omega (arith, lengths)
+  abbrev vault : Vault
+  vault = record {
+    entries = entry_for ForCe ∷ entry_for ForDe ∷ [];
+    level = 0;
+    seed = plan.seed;
+    attempts = λ user. record { additions = []; secrets = [] };
+  }
 
-pub leaves-out-device : LeavesOutDevice
-leaves-out-device seed user birth turns =
-    let own = still (between seed user birth) in
-    let there = (turns birth.boot (began_at seed user birth Renamed) own refl (tt, refl)
-    (rests_at seed user birth Renamed own (refl, (refl, tt)))).stands.1.0 in
-    none_below there.0 there.1
-  where
-    none_below : (n : ℕ) → n < 0 → ⊥
-    none_below n less = omega (arith, less)
+  live-for : (class : Class) → entry_of vault.entries (blob_of plan class) ≡ Some (entry_for class)
+  live-for ForCe = ap (λ t. cond t (Some (entry_for ForCe)) (entry_of (entry_for ForDe ∷ []) plan.ce_blob))
+      (bytes-same plan.ce_blob)
+  live-for ForDe = ap (λ t. cond t (Some (entry_for ForCe)) (entry_of (entry_for ForDe ∷ []) plan.de_blob))
+      (bytes-apart plan.de_blob plan.ce_blob plan.differ)
+      ∙ ap (λ t. cond t (Some (entry_for ForDe)) None) (bytes-same plan.de_blob)
 
-pub hides-change : HidesChange
-hides-change seed user birth turns =
-    let own = still (on_way seed user birth (with_key seed ForDe user birth)) in
-    let shows = turns birth.boot (began_at seed user birth (Settled ForDe)) own refl (tt, refl)
-    (rests_at seed user birth (Settled ForDe) own (λ left is. is, (refl, (refl, tt)))) in
-    none-some _ (sym shows.stands.1.noted)
+  sealed-for : (class : Class) → IsSealedFor vault (blob_of plan class) (app_id_of (spec_of plan class).discard [])
+      (record { user = plan.user; class = class }) (spec_of plan class).nonce (spec_of plan class).key
+      (text_of plan class)
+  sealed-for class = record {
+    keyed = record {
+      entry = entry_for class;
+      live = live-for class;
+      bound = refl;
+      tagged = refl;
+      current = refl;
+    };
+    sealed_so = refl;
+  }
 
-pub touches-other : TouchesOther
-touches-other seed user other birth apart turns =
-    let own = still (between seed user birth) in
-    apart (turns birth.boot (began_at seed user birth Renamed) own refl (tt, refl)
-    (rests_at seed user birth Renamed own (refl, (refl, tt)))).stands.0
+  abbrev files_for : Class → Files
+  files_for class = all_files (spec_of plan class).discard (Some (blob_of plan class)) (text_of plan class)
 
-pub renames-empty : RenamesEmpty
-renames-empty seed user birth turns =
-    let own = still (on_way seed user birth no_files) in
-    let shows = turns birth.boot (began_at seed user birth (Made ForDe)) own refl (tt, refl)
-    (rests_at seed user birth (Made ForDe) own (refl, (refl, tt))) in
-    let stands = shows.stands.1.keeps.keeps (on_way seed user birth no_files) Same refl refl in
-    none-some (rehearsal_key seed ForDe user birth)
-    (sym (ap (λ found. if_version found (map.get no_files EncryptedKey)) (map.get-empty file_cmp Version)) ∙ stands.de)
+  abbrev both_in : Part
+  both_in = part (Some (files_for ForCe)) (Some (files_for ForDe))
+
+  -- the create in a world of its user's
+  abbrev scene_at : Stage → OwnWorld → Scene
+  scene_at stage own = record {
+    boot = plan.birth.boot;
+    began = record {
+      command = CreateCommand plan.user;
+      verdict = None;
+      changes = changes_at stage plan.user plan.birth;
+      index = plan.birth.index;
+    };
+    share = record { own = own; vault = vault };
+  }
+
+  -- nothing is pending, and the device key's directory was synced
+  abbrev still : OwnWorld
+  still = record { stable = both_in; durable = []; pending = [] }
+
+  owned-for : (class : Class) → IsOwned vault.entries plan.user (blob_of plan class)
+  owned-for class = record { entry = entry_for class; live = live-for class; tagged = refl }
+
+  owned-both : (blob : Blob) → Contains (plan.ce_blob ∷ plan.de_blob ∷ []) blob
+      → IsOwned vault.entries plan.user blob
+  owned-both blob has = elim (Contains-cases plan.ce_blob (plan.de_blob ∷ []) blob has) [
+    | inl same ↦ subst (IsOwned vault.entries plan.user) same (owned-for ForCe)
+    | inr rest ↦ elim (Contains-cases plan.de_blob [] blob rest) [
+      | inl same ↦ subst (IsOwned vault.entries plan.user) same (owned-for ForDe)
+      | inr none ↦ absurd (Contains-none blob none)
+    ]
+  ]
+
+  settled-rests : Rests (create_rest (create_at plan Settled StoringDe)) plan.birth.boot
+      (scene_at StoringDe still).began (scene_at StoringDe still).share
+  settled-rests = record {
+    of_user = refl;
+    accepted = refl;
+    serves = record { command = refl; born = refl; changes = refl };
+    facts = (
+      refl,
+      (
+        refl,
+        (
+          refl,
+          (
+            sealed-for ForCe,
+            (
+              λ left is. is,
+              (
+                sealed-for ForDe,
+                (λ left is. ap (λ p. p Temp) is, (λ left is. ap (λ p. p De) is, (refl, (refl, tt)))),
+              ),
+            ),
+          ),
+        ),
+      ),
+    );
+    known = (
+      tt,
+      (
+        tt,
+        (
+          tt,
+          (
+            Contains-first plan.ce_blob (plan.de_blob ∷ []),
+            (
+              tt,
+              (
+                Contains-rest plan.ce_blob (plan.de_blob ∷ []) plan.de_blob (Contains-first plan.de_blob []),
+                (tt, (tt, (tt, (tt, tt)))),
+              ),
+            ),
+          ),
+        ),
+      ),
+    );
+    owned = owned-both;
+  }
+
+  -- the user was made, which isn't durable yet
+  abbrev pending_birth : OwnWorld
+  pending_birth = record {
+    stable = both_in;
+    durable = [];
+    pending = record { op = RenameDir Temp De; note = Some (Born plan.birth) } ∷ [];
+  }
+
+  created-rests : Rests (create_rest (create_at plan Stored Created)) plan.birth.boot
+      (scene_at Created pending_birth).began (scene_at Created pending_birth).share
+  created-rests = record {
+    of_user = refl;
+    accepted = refl;
+    serves = record { command = refl; born = refl; changes = refl };
+    facts = (Contains-first (Born plan.birth) [], tt);
+    known = (tt, tt);
+    owned = λ blob none. absurd (Contains-none blob none);
+  }
+
+  key-long : (class : Class) → length (key_of plan.seed class plan.user plan.birth) ≡ 64
+  unfolding key_of made
+  key-long class = length-stream_bytes _ _ _ 16
+
+  nonce-long : (class : Class) → length (nonce_of plan.seed class plan.user plan.birth) ≡ 12
+  unfolding nonce_of made
+  nonce-long class = length-stream_bytes _ _ _ 3
+
+  discard-long : (class : Class) → length (discardable_of plan.seed class plan.user plan.birth) ≡ 16384
+  unfolding discardable_of made
+  discard-long class = length-stream_bytes _ _ _ 4096
+
+  blob-long : (class : Class) → length (blob_of plan class) ≡ 32
+  blob-long ForCe = plan.ce_long
+  blob-long ForDe = plan.de_long
+
+  task-whole : (class : Class) (progress : Progress) → IsTask (task_at plan class progress)
+  task-whole ForCe progress = record {
+    key = key-long ForCe;
+    nonce = nonce-long ForCe;
+    discard = discard-long ForCe;
+    owner = refl;
+    target = λ e. cc;
+    stage = (refl, plan.ce_long);
+  }
+  task-whole ForDe progress = record {
+    key = key-long ForDe;
+    nonce = nonce-long ForDe;
+    discard = discard-long ForDe;
+    owner = refl;
+    target = λ e. cc;
+    stage = (refl, plan.de_long);
+  }
+
+  abbrev kept-for : (class : Class)
+      → IsKept (scene_at Created pending_birth).share plan.user plan.birth class (task_at plan class Stored)
+  kept-for class = record {
+    whole = task-whole class Stored;
+    tagged = refl;
+    bare = refl;
+    blob = blob_of plan class;
+    sealed = text_of plan class;
+    bound = (refl, blob-long class);
+    has = sealed-for class;
+    given = refl;
+  }
+
+  created-stands : OwnImagesStand (sealed vault) plan.user pending_birth
+  created-stands = (
+    refl,
+    λ fill. subst (λ op. PartStands (sealed vault) plan.user (after_local both_in op)
+        (Some (record { birth = plan.birth; secrets = new_secrets }))) (sym (whole-rename Temp De fill))
+        (born (kept-for ForCe) (kept-for ForDe)),
+  )
+
+no-cons : {A : Type 0} (x : A) (xs : List A) → x ∷ xs ≡ [] → ⊥
+no-cons x xs e = cc
 
 pub replies-before-sync : RepliesBeforeSync
-replies-before-sync seed user birth turns =
-    let own : OwnWorld = record {
-      stable = on_way seed user birth (with_key seed ForDe user birth);
-      durable = [];
-      pending = record { op = RenameDir Temp De; note = Some (Born birth) } ∷ [];
-    } in
-    let shows = turns birth.boot (began_at seed user birth Created) own (refl, through) (tt, refl)
-    (rests_at seed user birth Created own (Contains-push [] (Born birth), tt)) in
-    let counts = ap length shows.may.1.1 in
-    omega (arith, counts)
-  where
-    through : (fill : Fill) → PartStands (rehearsal seed) user
-        (after_local (on_way seed user birth (with_key seed ForDe user birth)) (filled_local fill (RenameDir Temp De)))
-        (Some (record { birth = birth; secrets = new_secrets }))
-    through Same = born seed user birth
-    through (Bytes other) = born seed user birth
+replies-before-sync plan turns =
+    let shows = turns (scene_at plan Created (pending_birth plan)) (created-stands plan) (tt, refl)
+    (created-rests plan) in no-cons (Born plan.birth) [] shows.may.1.1
+
+pub leaves-out-device : LeavesOutDevice
+leaves-out-device plan turns =
+    let shows = turns (scene_at plan StoringDe (still plan)) refl (tt, refl) (settled-rests plan) in
+    no-cons plan.ce_blob (plan.de_blob ∷ []) shows.held
+
+pub hides-change : HidesChange
+hides-change plan turns =
+    let shows = turns (scene_at plan StoringDe (still plan)) refl (tt, refl) (settled-rests plan) in
+    none-some _ (sym shows.stands.step.noted)
+
+pub hides-blob : HidesBlob
+hides-blob plan turns =
+    let shows = turns (scene_at plan StoringDe (still plan)) refl (tt, refl) (settled-rests plan) in
+    none-some plan.de_blob (shows.stands.brings.brings
+    ∙ files-named (spec_of plan ForDe).discard (Some plan.de_blob) (text_of plan ForDe))
+
+pub touches-other : TouchesOther
+touches-other plan other apart turns =
+    apart (turns (scene_at plan StoringDe (still plan)) refl (tt, refl) (settled-rests plan)).stands.mine

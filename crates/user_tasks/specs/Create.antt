@@ -1,67 +1,80 @@
--- A create as a task over its user's world: the facts that each stage rests on.
-use Rattle.std.specs.Prelude.{◌≡◌, ℕ, ◌+◌, List, [], ◌∷◌, Option, Some, None}
-use Rattle.std.specs.FinMap as map
+-- A create as a task over its user's share of both devices: the facts that each stage rests on.
+use Rattle.std.specs.Prelude.{◌≡◌, ◌≢◌, Bool, false, ℕ, ◌+◌, List, [], ◌∷◌, ◌++◌, Option, Some, None}
+use Rattle.tree_model.specs.declared.blobs.Blob.{Blob}
 use Rattle.tree_model.specs.declared.places.Class.{Class}
 use Rattle.tree_model.specs.declared.places.Class.TheVariants.{De as ForDe, Ce as ForCe}
+use Rattle.tree_model.specs.declared.places.Place.{Place}
+use Rattle.tree_model.specs.declared.places.Place.TheVariants.{De as DePlace, Ce as CePlace}
 use Rattle.tree_model.specs.declared.places.Slot.TheVariants.{Current}
-use Rattle.tree_model.specs.declared.files.FileName.TheVariants.{Version, EncryptedKey}
-use Rattle.tree_model.specs.declared.sites.Site.{Site}
-use Rattle.tree_model.specs.declared.sites.Site.TheVariants.{Ce, Temp}
 use Rattle.tree_model.specs.Dir.{Files}
-use Rattle.tree_model.specs.Parts.{Part}
 use Rattle.journal_model.specs.declared.commands.Command.TheVariants.{Create as CreateCommand}
 use Rattle.journal_model.specs.declared.entries.Birth.{Birth}
 use Rattle.journal_model.specs.declared.entries.Change.{Change}
 use Rattle.journal_model.specs.declared.entries.Change.TheVariants.{Create as CreateChange}
 use Rattle.journal_model.specs.Machine.{Running as Began}
 use Rattle.user_world.specs.declared.changes.LocalChange.TheVariants.{Born}
-use Rattle.user_world.specs.declared.turns.Next.{Next}
-use Rattle.user_world.specs.Facts.{Fact, Knows, Logged, Durable, Here, Always}
-use Rattle.user_world.specs.OwnWorlds.{OwnWorld, own_view, OwnImagesStand}
-use Rattle.user_world.specs.Turns.{Rest, Rests, TurnShows}
-use Rattle.key_directory.specs.Rehearsal.{rehearsal, rehearsal_key, rehearsal_version}
+use Rattle.user_world.specs.Facts.{Knows, Logged, Durable}
+use Rattle.task_turns.specs.declared.calls.Answer.{Answer}
+use Rattle.task_turns.specs.declared.calls.Answer.TheVariants.{Done, Blob as IsBlob, Sealed, Output}
+use Rattle.task_turns.specs.Shares.{ShareFact, Own, Same, Given}
+use Rattle.task_turns.specs.Turns.{Rest, Tasks}
+use Rattle.store_task.specs.declared.turns.StoreSpec.{StoreSpec}
+use Rattle.store_task.specs.declared.stages.Progress.{Progress}
+use Rattle.store_task.specs.declared.stages.Progress.TheVariants.{Stored}
+use Rattle.store_task.specs.declared.stages.Stage.{Stage as StoreStage}
+use Rattle.store_task.specs.declared.stages.Stage.TheVariants.{First, Tied, Generated, Storing}
+use Rattle.store_task.specs.Task.{Task, IsTask, IsAnswer, after as store_after, held_by, held_of}
+use Rattle.store_task.specs.Task.{makes_of, draws_of, progress_of, all_files, sealing, asks_of as store_asks_of}
 use Rattle.user_tasks.specs.declared.creates.Stage.{Stage}
-use Rattle.user_tasks.specs.declared.creates.Stage.TheVariants.{Clearing, Made, Versioned, Keyed}
-use Rattle.user_tasks.specs.declared.creates.Stage.TheVariants.{Settled, Renamed, Created, Ended}
-use Rattle.user_tasks.specs.declared.creates.Create.{Create}
-use Rattle.user_tasks.specs.Clearing.{IsNextToClear}
-use Rattle.user_tasks.specs.Scenes.{scene_of}
+use Rattle.user_tasks.specs.declared.creates.Stage.TheVariants.{Clearing, StoringCe, StoringDe, Created, Ended}
+use Rattle.user_tasks.specs.Stores.{Frame, turns_of, rest_in}
 
-abbrev pub no_files : Files
-no_files = map.empty
+pub record Creating : Type 0 where
+  pub user : ℕ
+  pub birth : Birth
+  -- the tasks that store the credential key's directory and the device key's
+  pub ce : Task
+  pub de : Task
+  pub stage : Stage
 
-abbrev pub with_version : Files
-with_version = map.insert map.empty Version rehearsal_version
+-- the task stores the user's key of this class at this place, under no secret
+pub record Stores (user : ℕ) (class : Class) (target : Place) (task : Task) : Type 0 where
+  pub whole : IsTask task
+  pub placed : task.spec.target ≡ target
+  pub tagged : task.spec.tag ≡ record { user = user; class = class }
+  pub bare : task.spec.secret ≡ []
 
-abbrev pub with_key : List ℕ → Class → ℕ → Birth → Files
-with_key seed class user birth = map.insert with_version EncryptedKey (rehearsal_key seed class user birth)
+-- the credential key's directory is stored first
+abbrev pub IsStage : Task → Task → Stage → Type 0
+IsStage ce de Clearing = (ce.stage ≡ First) × (de.stage ≡ First)
+IsStage ce de StoringCe = (progress_of ce.stage ≢ Stored) × (de.stage ≡ First)
+IsStage ce de StoringDe = (progress_of ce.stage ≡ Stored) × (progress_of de.stage ≢ Stored)
+IsStage ce de Created = Unit {0}
+IsStage ce de Ended = Unit {0}
 
--- a part with no device directory, and no credential directory but the current one
-abbrev pub part : Option Files → Option Files → Part
-part current temp (Ce Current) = current
-part current temp Temp = temp
-part current temp site = None
+pub record IsCreating (create : Creating) : Type 0 where
+  pub ce : Stores create.user ForCe (CePlace create.user Current) create.ce
+  pub de : Stores create.user ForDe (DePlace create.user) create.de
+  pub stage : IsStage create.ce create.de create.stage
 
--- the credential key's directory at its site, from the first rename on
-abbrev pub current_of : List ℕ → Class → ℕ → Birth → Option Files
-current_of seed ForCe user birth = None
-current_of seed ForDe user birth = Some (with_key seed ForCe user birth)
+-- the directory that was stored, and how its key is sealed
+abbrev pub stored_at : StoreSpec → StoreStage → Option Files
+stored_at spec First = None
+stored_at spec (Tied app_id) = None
+stored_at spec (Generated app_id blob) = None
+stored_at spec (Storing blob sealed progress) = Some (all_files spec.discard blob sealed)
 
--- the user isn't there yet, and the class's directory is on its way in the temporary site
-abbrev pub on_its_way : List ℕ → ℕ → Birth → Class → Files → List Fact
-on_its_way seed user birth class files = Knows None ∷ Here (part (current_of seed class user birth) (Some files)) ∷ []
+abbrev pub sealed_at : StoreSpec → StoreStage → ShareFact
+sealed_at spec First = Same [] []
+sealed_at spec (Tied app_id) = Same [] []
+sealed_at spec (Generated app_id blob) = Same [] []
+sealed_at spec (Storing blob sealed progress) = sealing spec blob sealed
 
-abbrev pub facts_at : List ℕ → ℕ → Birth → Stage → List Fact
-facts_at seed user birth Clearing = Knows None ∷ []
-facts_at seed user birth (Made class) = on_its_way seed user birth class no_files
-facts_at seed user birth (Versioned class) = on_its_way seed user birth class with_version
-facts_at seed user birth (Keyed class) = on_its_way seed user birth class (with_key seed class user birth)
-facts_at seed user birth (Settled class) =
-    let files = with_key seed class user birth in
-    Always (part (current_of seed class user birth) (Some files)) ∷ on_its_way seed user birth class files
-facts_at seed user birth Renamed = Knows None ∷ Here (part (current_of seed ForDe user birth) None) ∷ []
-facts_at seed user birth Created = Logged (Born birth) ∷ []
-facts_at seed user birth Ended = Logged (Born birth) ∷ Durable ∷ []
+-- the user isn't there yet, and both keys are the right ones
+abbrev pub on_its_way : Creating → List ShareFact → List ShareFact
+on_its_way create facts =
+    Own (Knows None) ∷ Given create.ce.spec.key ForCe create.user create.birth
+    ∷ Given create.de.spec.key ForDe create.user create.birth ∷ facts
 
 -- the changes that it made so far, and what the machine has of its command
 abbrev pub changes_at : Stage → ℕ → Birth → List Change
@@ -69,40 +82,139 @@ changes_at Created user birth = CreateChange user birth ∷ []
 changes_at Ended user birth = CreateChange user birth ∷ []
 changes_at stage user birth = []
 
-pub record IsCreate (create : Create) (boot : ℕ) (began : Began) : Type 0 where
-  pub command : began.command ≡ CreateCommand create.user
-  pub birth : create.birth ≡ record { boot = boot; index = began.index }
-  pub changes : began.changes ≡ changes_at create.stage create.user create.birth
+pub record IsCreate (user : ℕ) (birth : Birth) (stage : Stage) (boot : ℕ) (began : Began) : Type 0 where
+  pub command : began.command ≡ CreateCommand user
+  pub born : birth ≡ record { boot = boot; index = began.index }
+  pub changes : began.changes ≡ changes_at stage user birth
 
--- how many turns it has at most; one that makes a directory counts twice
-abbrev pub behind : Class → ℕ
-behind ForCe = 8
-behind ForDe = 2
-
-abbrev pub turns_at : Stage → ℕ
-turns_at Clearing = 14
-turns_at (Made class) = 4 + behind class
-turns_at (Versioned class) = 3 + behind class
-turns_at (Keyed class) = 2 + behind class
-turns_at (Settled class) = 1 + behind class
-turns_at Renamed = 8
-turns_at Created = 2
-turns_at Ended = 1
-
-abbrev pub create_rest : List ℕ → Create → Rest
-create_rest seed create = record {
+-- while the credential key's directory is stored, the other is still to come
+abbrev pub ce_frame : Creating → Frame
+ce_frame create = record {
   user = create.user;
-  facts = facts_at seed create.user create.birth create.stage;
-  serves = IsCreate create;
-  left = turns_at create.stage;
+  base = on_its_way create [];
+  current = None;
+  before = [];
+  serves = IsCreate create.user create.birth StoringCe;
+  turns = turns_of create.de + 2;
+  makes = makes_of create.de;
+  draws = draws_of create.de;
 }
 
-abbrev pub first_create : ℕ → Birth → Create
-first_create user birth = record { user = user; birth = birth; stage = Clearing }
+-- and then it stands, with its blob held
+abbrev pub de_frame : Creating → Frame
+de_frame create = record {
+  user = create.user;
+  base = on_its_way create (sealed_at create.ce.spec create.ce.stage ∷ []);
+  current = stored_at create.ce.spec create.ce.stage;
+  before = held_of create.ce;
+  serves = IsCreate create.user create.birth StoringDe;
+  turns = 2;
+  makes = 0;
+  draws = 0;
+}
 
--- the turn shows what it has to, in every world in which the create rests
-abbrev pub CreateTurns : List ℕ → Create → Option Site → Next Create → Type 0
-CreateTurns seed create in_the_way next = (boot : ℕ) (began : Began) (own : OwnWorld)
-    → OwnImagesStand (rehearsal seed) create.user own → IsNextToClear (own_view own) in_the_way
-    → Rests (create_rest seed create) boot began own
-    → TurnShows (create_rest seed) (scene_of seed boot began own) (create_rest seed create) next
+-- where a create rests; at the end no blob is held, since the user's directories name both
+abbrev pub rest_at : Stage → Creating → Rest
+rest_at Clearing create = record {
+  user = create.user;
+  facts = on_its_way create [];
+  held = [];
+  serves = IsCreate create.user create.birth Clearing;
+  left = turns_of create.ce + (turns_of create.de + 2);
+  makes = makes_of create.ce + makes_of create.de;
+  draws = draws_of create.ce + draws_of create.de;
+}
+rest_at StoringCe create = rest_in (ce_frame create) create.ce
+rest_at StoringDe create = rest_in (de_frame create) create.de
+rest_at Created create = record {
+  user = create.user;
+  facts = Own (Logged (Born create.birth)) ∷ [];
+  held = [];
+  serves = IsCreate create.user create.birth Created;
+  left = 2;
+  makes = 0;
+  draws = 0;
+}
+rest_at Ended create = record {
+  user = create.user;
+  facts = Own (Logged (Born create.birth)) ∷ Own Durable ∷ [];
+  held = [];
+  serves = IsCreate create.user create.birth Ended;
+  left = 1;
+  makes = 0;
+  draws = 0;
+}
+
+abbrev pub create_rest : Creating → Rest
+create_rest create = record (rest_at create.stage create) { user = create.user }
+
+-- the blobs of a list, in order
+abbrev pub all_held : List (Option Blob) → List Blob
+all_held [] = []
+all_held (found ∷ rest) = held_by found ++ all_held rest
+
+abbrev pub held_in : Creating → List Blob
+held_in create = (create_rest create).held
+
+-- once its directory is at its place, a store task makes room for the next stage
+abbrev pub after_ce : Progress → Stage
+after_ce Stored = StoringDe
+after_ce progress = StoringCe
+
+abbrev pub after_de : Progress → Stage
+after_de Stored = Created
+after_de progress = StoringDe
+
+abbrev pub with_ce : Creating → Task → Creating
+with_ce create ce = record create { ce = ce; stage = after_ce (progress_of ce.stage) }
+
+abbrev pub with_de : Creating → Task → Creating
+with_de create de = record create { de = de; stage = after_de (progress_of de.stage) }
+
+-- what was in the way is gone, or the first job was done
+abbrev pub after_clearing : Creating → Answer → Creating
+after_clearing create Done = create
+after_clearing create (IsBlob blob) = with_ce create (store_after create.ce (IsBlob blob))
+after_clearing create (Sealed sealed) = with_ce create (store_after create.ce (Sealed sealed))
+after_clearing create (Output output) = with_ce create (store_after create.ce (Output output))
+
+abbrev pub after_at : Stage → Creating → Answer → Creating
+after_at Clearing create answer = after_clearing create answer
+after_at StoringCe create answer = with_ce create (store_after create.ce answer)
+after_at StoringDe create answer = with_de create (store_after create.de answer)
+after_at Created create answer = record create { stage = Ended }
+after_at Ended create answer = create
+
+abbrev pub after : Creating → Answer → Creating
+after create answer = after_at create.stage create answer
+
+abbrev pub hears_clearing : Task → Answer → Type 0
+hears_clearing ce Done = Unit {0}
+hears_clearing ce (IsBlob blob) = IsAnswer ce (IsBlob blob)
+hears_clearing ce (Sealed sealed) = IsAnswer ce (Sealed sealed)
+hears_clearing ce (Output output) = IsAnswer ce (Output output)
+
+-- the answers that it may hear
+abbrev pub hears_at : Stage → Creating → Answer → Type 0
+hears_at Clearing create answer = hears_clearing create.ce answer
+hears_at StoringCe create answer = IsAnswer create.ce answer
+hears_at StoringDe create answer = IsAnswer create.de answer
+hears_at Created create answer = answer ≡ Done
+hears_at Ended create answer = ⊥
+
+abbrev pub hears : Creating → Answer → Type 0
+hears create answer = hears_at create.stage create answer
+
+-- whether it asks for a job next
+abbrev pub asks_at : Stage → Creating → Bool
+asks_at Clearing create = store_asks_of create.ce
+asks_at StoringCe create = store_asks_of create.ce
+asks_at StoringDe create = store_asks_of create.de
+asks_at Created create = false
+asks_at Ended create = false
+
+abbrev pub asks_of : Creating → Bool
+asks_of create = asks_at create.stage create
+
+abbrev pub creates : Tasks Creating
+creates = record { rest_of = create_rest; hears = hears; after = after; asks = asks_of }

@@ -1,5 +1,6 @@
 pub mod Clearing
 pub mod Create
-pub mod Scenes
+pub mod Made
+pub mod Stores
 pub mod Tasks
 pub mod WrongPlans

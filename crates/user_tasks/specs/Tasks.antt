@@ -1,51 +1,73 @@
 -- The commands of users: what each rests on, what its turn shows, and how it begins.
-use Rattle.std.specs.Prelude.{◌≡◌, ℕ, ◌≤◌, List, [], Option, Some, None, is_some}
+use Rattle.std.specs.Prelude.{◌≡◌, ◌⊎◌, ℕ, ◌+◌, ◌*◌, ◌≤◌, List, [], Option, Some, None, is_some}
 use Rattle.tree_model.specs.declared.sites.Site.{Site}
 use Rattle.journal_model.specs.declared.commands.Command.{Command}
 use Rattle.journal_model.specs.declared.entries.Birth.{Birth}
 use Rattle.journal_model.specs.declared.refusals.Facts.{Facts}
 use Rattle.journal_model.specs.Command.{user_in}
+use Rattle.journal_model.specs.Made.{boot_seed_of}
 use Rattle.journal_model.specs.Refusals.{refusal_of}
 use Rattle.journal_model.specs.Machine.{Running as Began}
-use Rattle.user_world.specs.declared.turns.Next.{Next}
-use Rattle.user_world.specs.OwnWorlds.{OwnWorld, own_view, own_record, OwnImagesStand}
-use Rattle.user_world.specs.Turns.{Rest, Rests, TurnShows}
-use Rattle.key_directory.specs.Rehearsal.{rehearsal}
-use Rattle.user_tasks.specs.declared.creates.Create.{Create}
+use Rattle.user_world.specs.OwnWorlds.{own_view, own_record, OwnImagesStand}
+use Rattle.key_directory.specs.Vaults.{sealed}
+use Rattle.task_turns.specs.declared.next.Next.{Next}
+use Rattle.task_turns.specs.declared.next.Next.TheVariants.{Work as WorkNext}
+use Rattle.task_turns.specs.Shares.{Share}
+use Rattle.task_turns.specs.Turns.{Rest, Rests, Scene, Tasks, TurnShows}
 use Rattle.user_tasks.specs.Clearing.{IsNextToClear}
-use Rattle.user_tasks.specs.Create.{create_rest, turns_at}
-use Rattle.user_tasks.specs.Scenes.{scene_of}
+use Rattle.user_tasks.specs.Create.{Creating, creates, create_rest}
 
 abbrev pub UserTask : Type 0
-UserTask = Create
+UserTask = Creating
+
+abbrev pub tasks : Tasks UserTask
+tasks = creates
+
+abbrev pub rest_of : UserTask → Rest
+rest_of task = create_rest task
 
 abbrev pub user_of : UserTask → ℕ
 user_of task = task.user
 
-abbrev pub rest_of : List ℕ → UserTask → Rest
-rest_of seed task = create_rest seed task
-
--- how many turns it has at most, and how many any has as it begins
-abbrev pub left_of : UserTask → ℕ
-left_of task = turns_at task.stage
-
+-- how many turns any command has as it begins, at most
 abbrev pub most_turns : ℕ
-most_turns = 14
+most_turns = 24
 
--- the turn shows what it has to, in every world in which the task rests
-abbrev pub UserTurns : List ℕ → UserTask → Option Site → Next UserTask → Type 0
-UserTurns seed task in_the_way next = (boot : ℕ) (began : Began) (own : OwnWorld)
-    → OwnImagesStand (rehearsal seed) (rest_of seed task).user own → IsNextToClear (own_view own) in_the_way
-    → Rests (rest_of seed task) boot began own
-    → TurnShows (rest_of seed) (scene_of seed boot began own) (rest_of seed task) next
+-- the turn shows what it has to, in every scene in which the task rests
+abbrev pub UserTurns : UserTask → Option Site → Next → Type 0
+UserTurns task in_the_way next = (scene : Scene)
+    → OwnImagesStand (sealed scene.share.vault) (user_of task) scene.share.own
+    → IsNextToClear (own_view scene.share.own) in_the_way
+    → Rests (rest_of task) scene.boot scene.began scene.share → TurnShows tasks task scene next
 
 -- a command as it begins and isn't refused
 abbrev pub accepted : Command → ℕ → Began
 accepted command index = record { command = command; verdict = None; changes = []; index = index }
 
--- a user's command begins with this task: it rests in each world of the user's in which the command is not refused
-pub record Begins (command : Command) (birth : Birth) (task : UserTask) : Type 0 where
+-- a user's command begins with this task: it rests in each share of the user's in which the command is not refused,
+-- and under whose seed the bytes of the boot are made
+pub record Begins (command : Command) (birth : Birth) (boot_seed : List ℕ) (task : UserTask) : Type 0 where
   pub owned : user_in command ≡ Some (user_of task)
-  pub rests : (seed : List ℕ) (facts : Facts) (own : OwnWorld) → facts.present ≡ is_some (own_record own)
-      → refusal_of command facts ≡ None → Rests (rest_of seed task) birth.boot (accepted command birth.index) own
-  pub few : left_of task ≤ most_turns
+  pub few : (rest_of task).left ≤ most_turns
+  pub makes : (rest_of task).makes ≤ 2
+  pub draws : (rest_of task).draws ≤ 2
+  pub held : (rest_of task).held ≡ []
+  pub rests : (facts : Facts) (share : Share) → facts.present ≡ is_some (own_record share.own)
+      → refusal_of command facts ≡ None → boot_seed ≡ boot_seed_of share.vault.seed birth.boot
+      → Rests (rest_of task) birth.boot (accepted command birth.index) share
+
+-- the numbers of a command's jobs, which no other command's have
+pub record HasJobs (number : ℕ) (task : UserTask) : Type 0 where
+  pub ce : task.ce.job ≡ 65536 * number
+  pub de : task.de.job ≡ 65536 * number + 1
+
+abbrev pub IsNumbered : UserTask → Next → Type 0
+IsNumbered task (WorkNext job) = (job.number ≡ task.ce.job) ⊎ (job.number ≡ task.de.job)
+IsNumbered task next = Unit {0}
+
+-- a job that the turn hands out has one of the task's numbers
+abbrev pub UserJobs : UserTask → Option Site → Next → Type 0
+UserJobs task in_the_way next = (scene : Scene)
+    → OwnImagesStand (sealed scene.share.vault) (user_of task) scene.share.own
+    → IsNextToClear (own_view scene.share.own) in_the_way
+    → Rests (rest_of task) scene.boot scene.began scene.share → IsNumbered task next

@@ -1,56 +1,103 @@
--- Plans of a create that are wrong, and that no create can show: each is refuted in a world.
-use Rattle.std.specs.Prelude.{◌≢◌, ℕ, List, Some, None}
-use Rattle.tree_model.specs.declared.places.Class.TheVariants.{De as ForDe}
+-- Plans of a create that are wrong, and that no create can show: each is refuted in a scene in which the create rests.
+use Rattle.std.specs.Prelude.{◌≡◌, ◌≢◌, ℕ, List, [], length, Some, None}
+use Rattle.tree_model.specs.declared.blobs.Blob.{Blob}
+use Rattle.tree_model.specs.declared.places.Class.{Class}
+use Rattle.tree_model.specs.declared.places.Class.TheVariants.{De as ForDe, Ce as ForCe}
 use Rattle.tree_model.specs.declared.places.Slot.TheVariants.{Current}
-use Rattle.tree_model.specs.declared.files.FileName.TheVariants.{EncryptedKey}
 use Rattle.tree_model.specs.declared.sites.Site.TheVariants.{De, Ce, Temp}
-use Rattle.tree_model.specs.declared.sites.LocalOp.TheVariants.{MakeDir, Write, RenameDir}
+use Rattle.tree_model.specs.declared.sites.LocalOp.TheVariants.{RenameDir}
+use Rattle.seal_model.specs.Sealed.{sealed_text}
 use Rattle.journal_model.specs.declared.commands.Reply.TheVariants.{Done}
 use Rattle.journal_model.specs.declared.entries.Birth.{Birth}
+use Rattle.journal_model.specs.Made.{key_of, nonce_of, discardable_of}
 use Rattle.user_world.specs.declared.changes.LocalChange.TheVariants.{Born}
-use Rattle.user_world.specs.declared.turns.Call.TheVariants.{Op as OpCall, Sync as SyncCall}
-use Rattle.user_world.specs.declared.turns.Next.TheVariants.{Call as CallNext, Reply as ReplyNext}
-use Rattle.key_directory.specs.Rehearsal.{rehearsal_key}
+use Rattle.task_turns.specs.declared.calls.Call.TheVariants.{Op as OpCall}
+use Rattle.task_turns.specs.declared.next.Next.TheVariants.{Call as CallNext, Reply as ReplyNext}
+use Rattle.store_task.specs.declared.turns.StoreSpec.{StoreSpec}
+use Rattle.store_task.specs.declared.stages.Progress.{Progress}
+use Rattle.store_task.specs.declared.stages.Progress.TheVariants.{Settled, Stored}
+use Rattle.store_task.specs.declared.stages.Stage.TheVariants.{Storing}
+use Rattle.store_task.specs.Task.{Task}
 use Rattle.user_tasks.specs.declared.creates.Stage.{Stage}
-use Rattle.user_tasks.specs.declared.creates.Stage.TheVariants.{Made, Versioned, Settled, Renamed, Created}
-use Rattle.user_tasks.specs.declared.creates.Create.{Create}
-use Rattle.user_tasks.specs.Create.{CreateTurns}
+use Rattle.user_tasks.specs.declared.creates.Stage.TheVariants.{StoringDe, Created}
+use Rattle.user_tasks.specs.Create.{Creating}
+use Rattle.user_tasks.specs.Made.{target_of}
+use Rattle.user_tasks.specs.Tasks.{UserTurns}
 
-abbrev pub create_at : ℕ → Birth → Stage → Create
-create_at user birth stage = record { user = user; birth = birth; stage = stage }
+-- whose create it is, and the blobs of the entries that it made
+pub record Plan : Type 0 where
+  pub seed : List ℕ
+  pub user : ℕ
+  pub birth : Birth
+  pub ce_blob : Blob
+  pub de_blob : Blob
+  pub ce_long : length ce_blob ≡ 32
+  pub de_long : length de_blob ≡ 32
+  pub differ : de_blob ≢ ce_blob
 
--- after the device key's file is written, the next stage rests on a sync that wasn't made
-abbrev pub RenamesBeforeSync : Type 0
-RenamesBeforeSync = (seed : List ℕ) (user : ℕ) (birth : Birth)
-    → CreateTurns seed (create_at user birth (Versioned ForDe)) (Some Temp)
-    (CallNext (OpCall user (Write Temp EncryptedKey (rehearsal_key seed ForDe user birth))) None
-    (create_at user birth (Settled ForDe))) → ⊥
+-- what is stored of its keys
+abbrev pub spec_of : Plan → Class → StoreSpec
+spec_of plan class = record {
+  target = target_of plan.user class;
+  tag = record { user = plan.user; class = class };
+  key = key_of plan.seed class plan.user plan.birth;
+  secret = [];
+  nonce = nonce_of plan.seed class plan.user plan.birth;
+  discard = discardable_of plan.seed class plan.user plan.birth;
+}
+
+-- a key, sealed under an entry whose own key has no bytes
+abbrev pub text_of : Plan → Class → List ℕ
+text_of plan class = sealed_text [] (spec_of plan class).nonce (spec_of plan class).key
+
+abbrev pub blob_of : Plan → Class → Blob
+blob_of plan ForCe = plan.ce_blob
+blob_of plan ForDe = plan.de_blob
+
+abbrev pub task_at : Plan → Class → Progress → Task
+task_at plan class progress = record {
+  spec = spec_of plan class;
+  job = 0;
+  stage = Storing (Some (blob_of plan class)) (text_of plan class) progress;
+}
+
+-- the create once the credential key's directory is at its place, and the other is so far
+abbrev pub create_at : Plan → Progress → Stage → Creating
+create_at plan progress stage = record {
+  user = plan.user;
+  birth = plan.birth;
+  ce = task_at plan ForCe Stored;
+  de = task_at plan ForDe progress;
+  stage = stage;
+}
 
 -- the reply comes before the last sync
 abbrev pub RepliesBeforeSync : Type 0
-RepliesBeforeSync = (seed : List ℕ) (user : ℕ) (birth : Birth)
-    → CreateTurns seed (create_at user birth Created) (Some (Ce Current)) (ReplyNext Done) → ⊥
-
--- the device key's directory is renamed with no file in it
-abbrev pub RenamesEmpty : Type 0
-RenamesEmpty = (seed : List ℕ) (user : ℕ) (birth : Birth)
-    → CreateTurns seed (create_at user birth (Made ForDe)) (Some Temp)
-    (CallNext (OpCall user (RenameDir Temp De)) (Some (Born birth)) (create_at user birth Created)) → ⊥
+RepliesBeforeSync =
+    (plan : Plan) → UserTurns (create_at plan Stored Created) (Some (Ce Current)) (ReplyNext Done) → ⊥
 
 -- the device key's directory is left out
 abbrev pub LeavesOutDevice : Type 0
-LeavesOutDevice = (seed : List ℕ) (user : ℕ) (birth : Birth)
-    → CreateTurns seed (create_at user birth Renamed) (Some (Ce Current))
-    (CallNext SyncCall None (create_at user birth Created)) → ⊥
+LeavesOutDevice =
+    (plan : Plan) → UserTurns (create_at plan Settled StoringDe) (Some Temp) (ReplyNext Done) → ⊥
 
 -- the rename that makes the user is not noted as a change
 abbrev pub HidesChange : Type 0
-HidesChange = (seed : List ℕ) (user : ℕ) (birth : Birth)
-    → CreateTurns seed (create_at user birth (Settled ForDe)) (Some Temp)
-    (CallNext (OpCall user (RenameDir Temp De)) None (create_at user birth Created)) → ⊥
+HidesChange = (plan : Plan)
+    → UserTurns (create_at plan Settled StoringDe) (Some Temp)
+    (CallNext (OpCall plan.user (RenameDir Temp De) (Some plan.de_blob)) None)
+    → ⊥
 
--- a call on another user's places
+-- it doesn't tell the blob that the directory names
+abbrev pub HidesBlob : Type 0
+HidesBlob = (plan : Plan)
+    → UserTurns (create_at plan Settled StoringDe) (Some Temp)
+    (CallNext (OpCall plan.user (RenameDir Temp De) None) (Some (Born plan.birth)))
+    → ⊥
+
+-- it is on another user's places
 abbrev pub TouchesOther : Type 0
-TouchesOther = (seed : List ℕ) (user other : ℕ) (birth : Birth) → other ≢ user
-    → CreateTurns seed (create_at user birth Renamed) (Some (Ce Current))
-    (CallNext (OpCall other (MakeDir Temp)) None (create_at user birth (Made ForDe))) → ⊥
+TouchesOther = (plan : Plan) (other : ℕ) → other ≢ plan.user
+    → UserTurns (create_at plan Settled StoringDe) (Some Temp)
+    (CallNext (OpCall other (RenameDir Temp De) (Some plan.de_blob)) (Some (Born plan.birth)))
+    → ⊥

@@ -1,53 +1,90 @@
-ghost use Rattle.std.specs.Prelude.{◌≡◌, ◌≤◌, length, IfOk, None, Some};
-ghost use Rattle.user_world.specs.declared.turns.Call.TheVariants.{Op as OpCall, Sync as SyncCall};
-ghost use Rattle.user_world.specs.declared.turns.Next.TheVariants.{Call as CallNext};
-ghost use Rattle.user_tasks.specs.Create.{CreateTurns, first_create};
+ghost use Rattle.std.specs.Prelude.{◌≡◌, ◌<◌, IfOk};
+ghost use Rattle.task_turns.specs.Turns.{Asks};
+ghost use Rattle.store_task.specs.declared.stages.Stage.TheVariants.{First};
+ghost use Rattle.store_task.specs.declared.stages.Progress.TheVariants.{Stored};
+ghost use Rattle.store_task.specs.Task.{IsAnswer, after as store_after, progress_of};
+ghost use Rattle.user_tasks.specs.Create.{after, hears, all_held, held_in, with_ce, with_de, after_ce, after_de};
+ghost use Rattle.user_tasks.specs.Made.{IsFirst};
+ghost use Rattle.user_tasks.specs.Tasks.{UserTurns, UserJobs, tasks};
 
+use crate::made::made_spec;
+use crate::stores::{quiet, store_turn};
 use journal_model::{Birth, Reply};
-use key_directory::rehearsal;
 use std::alloc::Global;
-use tree_model::{Bytes, Class, FileName, LocalOp, NoMemory, Site, Slot};
-use user_world::{Call, LocalChange, Next};
+use std::marker::Model;
+use store_task::{Progress, StoreTask};
+use task_turns::{Answer, Call, Next};
+use tree_model::{Blob, Class, LocalOp, NoMemory, Site};
+use user_world::LocalChange;
 
-/// Where a create stands: what was done last.
+/// Where a create stands.
 #[derive(Clone, Copy, Debug, PartialEq, Eq)]
 pub enum Stage {
     /// What an earlier create left at the user's places is being removed.
     Clearing,
-    /// The temporary directory was made for this key.
-    Made(Class),
-    /// It holds its version.
-    Versioned(Class),
-    /// It holds its key.
-    Keyed(Class),
-    /// It was synced.
-    Settled(Class),
-    /// The credential key's directory is at its place.
-    Renamed,
-    /// The device key's directory is at its place: the user is there.
+    /// The credential key's directory is being stored.
+    StoringCe,
+    /// The device key's directory is being stored.
+    StoringDe,
+    /// It is at its place: the user is there.
     Created,
     /// And that is durable.
     Ended,
 }
 
-/// A create on its way.
-#[derive(Clone, Copy, Debug, PartialEq, Eq)]
+/// A create on its way: a user's two keys are stored, each in a directory bound to an entry of the keystore.
+#[derive(Drop)]
 pub struct Create {
-    pub user: u32,
-    pub birth: Birth,
-    pub stage: Stage,
+    user: u32,
+    birth: Birth,
+    ce: StoreTask,
+    de: StoreTask,
+    stage: Stage,
+}
+
+impl Model for Create {
+    ghost use Rattle.user_tasks.specs.Create.{Creating, IsCreating};
+
+    ghost Value = { Creating };
+
+    ghost view = { λ create. record {
+      user = create.user;
+      birth = create.birth;
+      ce = create.ce;
+      de = create.de;
+      stage = create.stage;
+    } };
+
+    ghost invariant = { λ create. IsCreating (record {
+      user = create.user;
+      birth = create.birth;
+      ce = create.ce;
+      de = create.de;
+      stage = create.stage;
+    }) };
 }
 
 impl Create {
-    /// The user's create as it begins.
-    pub fn first(user: u32, birth: Birth) -> Create
-        ensures { result ≡ first_create user birth }
+    /// The user's create as it begins, with the bytes that are made for it from the boot's seed.
+    pub fn first(
+        alloc: Global,
+        user: u32,
+        birth: Birth,
+        number: u64,
+        boot_seed: &[u8; 32],
+    ) -> Result<Create, NoMemory>
+        requires number { number < 65536 }
+        ensures first { IfOk result (IsFirst user birth number boot_seed.now) }
     {
-        Create {
+        let ce = made_spec(alloc, boot_seed, user, birth, Class::Ce)?;
+        let de = made_spec(alloc, boot_seed, user, birth, Class::De)?;
+        Ok(Create {
             user,
             birth,
+            ce: StoreTask::new(ce, 65536 * number),
+            de: StoreTask::new(de, 65536 * number + 1),
             stage: Stage::Clearing,
-        }
+        })
     }
 
     /// Whose it is.
@@ -58,80 +95,106 @@ impl Create {
     }
 
     /// The next turn, where `in_the_way` is the first of the user's sites that has to be cleared.
-    pub fn next(
-        &self,
-        alloc: Global,
-        seed: &[u8],
-        in_the_way: Option<Site>,
-    ) -> Result<Next<Create>, NoMemory>
-        requires seed { length seed.now ≤ 64 }
-        ensures turn { IfOk result (CreateTurns seed.now self.now in_the_way) }
+    pub fn next(&self, alloc: Global, in_the_way: Option<Site>) -> Result<Next, NoMemory>
+        ensures turn { IfOk result (UserTurns self.now in_the_way) }
+        ensures asks { IfOk result (Asks tasks self.now) }
+        ensures jobs { IfOk result (UserJobs self.now in_the_way) }
     {
         match self.stage {
             Stage::Clearing => match in_the_way {
-                Some(site) => Ok(self.op(LocalOp::RemoveDir(site), Stage::Clearing)),
-                None => Ok(self.op(LocalOp::MakeDir(Site::Temp), Stage::Made(Class::Ce))),
+                Some(site) => Ok(quiet(Call::Op {
+                    user: self.user,
+                    op: LocalOp::RemoveDir(site),
+                    names: None,
+                })),
+                None => store_turn(alloc, self.user, &self.ce, None),
             },
-            Stage::Made(class) => {
-                let version = Bytes::copy(alloc, &rehearsal::VERSION)?;
-                let write = LocalOp::Write(Site::Temp, FileName::Version, version);
-                Ok(self.op(write, Stage::Versioned(class)))
+            Stage::StoringCe => store_turn(alloc, self.user, &self.ce, None),
+            Stage::StoringDe => {
+                let born = LocalChange::Born(self.birth);
+                store_turn(alloc, self.user, &self.de, Some(born))
             }
-            Stage::Versioned(class) => {
-                let key = rehearsal::key(alloc, seed, class, self.user, self.birth)?;
-                let write = LocalOp::Write(Site::Temp, FileName::EncryptedKey, key);
-                Ok(self.op(write, Stage::Keyed(class)))
-            }
-            Stage::Keyed(class) => Ok(self.sync(Stage::Settled(class))),
-            Stage::Settled(class) => match class {
-                Class::Ce => {
-                    let rename = LocalOp::RenameDir(Site::Temp, Site::Ce(Slot::Current));
-                    Ok(self.op(rename, Stage::Renamed))
-                }
-                Class::De => {
-                    let rename = LocalOp::RenameDir(Site::Temp, Site::De);
-                    Ok(self.change(rename, LocalChange::Born(self.birth), Stage::Created))
-                }
-            },
-            Stage::Renamed => Ok(self.op(LocalOp::MakeDir(Site::Temp), Stage::Made(Class::De))),
-            Stage::Created => Ok(self.sync(Stage::Ended)),
+            Stage::Created => Ok(quiet(Call::Sync)),
             Stage::Ended => Ok(Next::Reply(Reply::Done)),
         }
     }
 
-    fn op(&self, op: LocalOp, then: Stage) -> Next<Create>
-        ensures { result ≡ CallNext (OpCall self.now.user op) None (record self.now { stage = then }) }
+    /// The create after an answer to its turn. It takes no memory.
+    pub fn heard(&mut self, answer: Answer)
+        requires hears { hears self.old answer }
+        ensures after { self.new ≡ after self.old answer }
     {
-        Next::Call {
-            call: Call::Op(self.user, op),
-            change: None,
-            then: self.at(then),
+        match self.stage {
+            Stage::Clearing => match answer {
+                Answer::Done => {}
+                answer => self.heard_ce(answer),
+            },
+            Stage::StoringCe => self.heard_ce(answer),
+            Stage::StoringDe => self.heard_de(answer),
+            Stage::Created => self.stage = Stage::Ended,
+            Stage::Ended => {}
         }
     }
 
-    fn change(&self, op: LocalOp, change: LocalChange, then: Stage) -> Next<Create>
-        ensures { result ≡ CallNext (OpCall self.now.user op) (Some change) (record self.now { stage = then }) }
+    /// The blobs that it holds, in the order in which they were made.
+    pub fn held(&self) -> [Option<Blob>; 2]
+        ensures { all_held result ≡ held_in self.now }
     {
-        Next::Call {
-            call: Call::Op(self.user, op),
-            change: Some(change),
-            then: self.at(then),
+        match self.stage {
+            Stage::StoringCe => [self.ce.held(), None],
+            Stage::StoringDe => [self.ce.held(), self.de.held()],
+            Stage::Clearing | Stage::Created | Stage::Ended => [None, None],
         }
     }
 
-    fn sync(&self, then: Stage) -> Next<Create>
-        ensures { result ≡ CallNext SyncCall None (record self.now { stage = then }) }
+    /// The same create in memory of its own.
+    pub fn duplicate(&self, alloc: Global) -> Result<Create, NoMemory>
+        ensures { IfOk result (λ copied. copied ≡ self.now) }
     {
-        Next::Call {
-            call: Call::Sync,
-            change: None,
-            then: self.at(then),
-        }
+        Ok(Create {
+            user: self.user,
+            birth: self.birth,
+            ce: self.ce.duplicate(alloc)?,
+            de: self.de.duplicate(alloc)?,
+            stage: self.stage,
+        })
     }
 
-    fn at(&self, stage: Stage) -> Create
-        ensures { result ≡ record self.now { stage = stage } }
+    fn heard_ce(&mut self, answer: Answer)
+        requires hears { IsAnswer self.old.ce answer }
+        requires before { self.old.de.stage ≡ First }
+        ensures after { self.new ≡ with_ce self.old (store_after self.old.ce answer) }
     {
-        Create { stage, ..*self }
+        self.ce.heard(answer);
+        self.stage = after_ce(self.ce.progress());
+    }
+
+    fn heard_de(&mut self, answer: Answer)
+        requires hears { IsAnswer self.old.de answer }
+        requires behind { progress_of self.old.ce.stage ≡ Stored }
+        ensures after { self.new ≡ with_de self.old (store_after self.old.de answer) }
+    {
+        self.de.heard(answer);
+        self.stage = after_de(self.de.progress());
+    }
+}
+
+/// The stage once the credential key's directory is so far.
+fn after_ce(progress: Progress) -> Stage
+    ensures { result ≡ after_ce progress }
+{
+    match progress {
+        Progress::Stored => Stage::StoringDe,
+        _ => Stage::StoringCe,
+    }
+}
+
+/// The stage once the device key's directory is so far.
+fn after_de(progress: Progress) -> Stage
+    ensures { result ≡ after_de progress }
+{
+    match progress {
+        Progress::Stored => Stage::Created,
+        _ => Stage::StoringDe,
     }
 }

@@ -1,12 +1,11 @@
-ghost use Rattle.user_tasks.specs.WrongPlans.{RenamesBeforeSync, RepliesBeforeSync, RenamesEmpty, LeavesOutDevice};
-ghost use Rattle.user_tasks.specs.WrongPlans.{HidesChange, TouchesOther};
+ghost use Rattle.user_tasks.specs.WrongPlans.{RepliesBeforeSync, LeavesOutDevice, HidesChange, HidesBlob};
+ghost use Rattle.user_tasks.specs.WrongPlans.{TouchesOther};
 
-/// Wrong plans of a create, each refuted by what a turn has to show, in a world where it fails.
+/// Wrong plans of a create, each refuted by what a turn has to show, in a scene where it fails.
 pub fn law_of_wrong_plans()
-    ensures unsynced { RenamesBeforeSync }
     ensures replied { RepliesBeforeSync }
-    ensures empty { RenamesEmpty }
     ensures left_out { LeavesOutDevice }
     ensures hidden { HidesChange }
+    ensures unnamed { HidesBlob }
     ensures other { TouchesOther }
 {}

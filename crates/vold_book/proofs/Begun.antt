@@ -26,21 +26,26 @@ use Rattle.journal_model.specs.Machine.{is_up, is_present, facts_of, verdict_of,
 use Rattle.journal_model.proofs.ByCommand.{no-user, of-user, refusal-kind}
 use Rattle.journal_model.proofs.Steps.{machine_after-append, legal-append, begun_by-append, numbers_begun-append}
 use Rattle.journal_model.specs.Users.{fold_changes}
+use Rattle.keystore_model.proofs.Elements.{Contains-none}
 use Rattle.docket.specs.Accounts.{Accounted}
 use Rattle.docket.specs.Docket.{after_begin, begun_by as docket_begun}
 use Rattle.docket.proofs.Accounts.{accounted-begun, first-fresh}
 use Rattle.user_world.specs.OwnWorlds.{own_record}
 use Rattle.user_world.specs.Timelines.{own_of}
 use Rattle.user_tasks.specs.Tasks.{user_of, rest_of, accepted}
-use Rattle.user_world.specs.Turns.{Rests}
-use Rattle.key_directory.proofs.Standing.{there-record, there-user}
+use Rattle.task_turns.specs.Turns.{Rests}
+use Rattle.key_directory.proofs.Present.{there-record, there-user}
 use Rattle.vold_book.specs.declared.tasks.Running.{Running}
-use Rattle.vold_book.specs.Places.{KnowsPlaces}
-use Rattle.vold_book.specs.State.{Docket, Plain, machine_of, timeline, ground_of}
-use Rattle.vold_book.specs.Tasks.{TaskStands, RunsOn}
-use Rattle.vold_book.specs.Turns.{Begins, user_there, facts_in, AcceptedTask, FirstTask}
-use Rattle.vold_book.specs.Whole.{WasGiven, Numbers, PhaseStands, IsCharged, AllRun, Whole}
-use Rattle.vold_book.proofs.Moves.{whole-of, at_actors}
+use Rattle.bench.specs.Known.{Knows}
+use Rattle.vold_book.specs.declared.tasks.Task.{Task}
+use Rattle.vold_book.specs.declared.tasks.Task.TheVariants.{User as Using, Recovery as Recovers, Refusal, Fault}
+use Rattle.vold_book.specs.State.{Docket, Plain, Ground, machine_of, timeline, ground_of, ground_at, vault_of}
+use Rattle.vold_book.specs.State.{share_of}
+use Rattle.vold_book.specs.Tasks.{TaskStands, RunsOn, HoldsOwn, held_in}
+use Rattle.vold_book.specs.Turns.{user_there, facts_in, AcceptedTask, FirstTask}
+use Rattle.vold_book.specs.Whole.{WasGiven, Numbers, PhaseStands, AllRun, Whole}
+use Rattle.vold_book.proofs.Moves.{Steady, whole-of, at_actors}
+use Rattle.vold_book.proofs.Plains.{Beginning, IsBeginning, begun_plain, begun_seen}
 use Rattle.vold_book.proofs.Numbers.{all_given-append}
 use Rattle.vold_book.proofs.UserTurns.{not_boot}
 
@@ -53,9 +58,9 @@ ready-down Up takes none = cc
 ready-down Down takes none = refl
 ready-down Halted takes none = absurd takes
 
-module _ (book : Plain) (actor : Actor) (after : Plain) (whole : Whole book)
+module _ (book : Plain) (actor : Actor) (begins : Beginning) (whole : Whole book)
     (idle : IsNone (map.get book.docket.running actor))
-    (takes : TakesTurn book.tracker.phase actor) (begins : Begins book after actor)
+    (takes : TakesTurn book.tracker.phase actor) (is : IsBeginning book actor begins)
     (own : actor_of begins.command ≡ actor) where
   abbrev machine : Machine
   machine = machine_of book
@@ -70,72 +75,101 @@ module _ (book : Plain) (actor : Actor) (after : Plain) (whole : Whole book)
   began = begun book.ledger.entries machine begins.command
 
   -- the Book knows what decides the refusal
-  facts-agree : facts_in book begins.command ≡ facts_of machine begins.command
+  facts-agree : facts_in book.bench.places book begins.command ≡ facts_of machine begins.command
   facts-agree = λ i. record {
     present = there (user_in begins.command) refl i;
     ready = is_up (sym whole.agrees.phase i);
   }
     where
       up-of : (user : ℕ) (phase : Phase) → TakesTurn phase actor → actor ≡ User user → PhaseStands phase book machine
-          → KnowsPlaces book.places (view book.tree.disk)
+          → Knows book.bench.places (view book.bench.disk)
       up-of user Up takes is stands = stands
       up-of user Down takes is stands = absurd (not_boot user (sym takes ∙ is))
       up-of user Halted takes is stands = absurd takes
 
       there : (of : Option ℕ) → user_in begins.command ≡ of
-          → user_there book.places of ≡ is_present of (fold_changes machine.log)
+          → user_there book.bench.places of ≡ is_present of (fold_changes machine.log)
       there None is = refl
       there (Some user) is =
-          up-of user book.tracker.phase takes (sym own ∙ of-user begins.command user is) whole.phase (De user)
-          ∙ there-user book.seed (timeline book.tree.disk machine) user whole.worlds
+          (up-of user book.tracker.phase takes (sym own ∙ of-user begins.command user is) whole.phase).there (De user)
+          ∙ there-user (vault_of book.seed book.bench.store) (timeline book.bench.disk machine) user whole.worlds
 
-  verdict-is : refusal_of begins.command (facts_in book begins.command) ≡ verdict_of machine begins.command
+  verdict-is : refusal_of begins.command (facts_in book.bench.places book begins.command)
+      ≡ verdict_of machine begins.command
   verdict-is = ap (refusal_of begins.command) facts-agree
 
-  -- a command that begins stands where its first task says
-  first-stands : (verdict : Option Reply) → refusal_of begins.command (facts_in book begins.command) ≡ verdict
-      → FirstTask begins.command
-      (record { boot = book.tracker.boot; index = docket_begun book.docket actor }) verdict begins.task
-      → TaskStands (ground_of book) begins.task began
-  first-stands (Some reply) is first =
-      subst (λ t. TaskStands (ground_of book) t began) (sym first)
-      (sym verdict-is ∙ is, refusal-kind begins.command (facts_in book begins.command) reply is)
-  first-stands None is first = by (user_in begins.command) refl first
-    where
-      birth : Birth
-      birth = record { boot = book.tracker.boot; index = docket_begun book.docket actor }
+  abbrev birth : Birth
+  birth = record { boot = book.tracker.boot; index = docket_begun book.docket actor }
 
-      none : began.verdict ≡ None
-      none = sym verdict-is ∙ is
+  abbrev ground' : Ground
+  ground' = ground_at book.seed (begun_seen begins.task book.bench) machine'
 
-      index : docket_begun book.docket actor ≡ begun_by (actor_of begins.command) book.ledger.entries
-      index = whole.numbers.counts actor ∙ ap (λ a. begun_by a book.ledger.entries) (sym own)
+  none-then : refusal_of begins.command (facts_in book.bench.places book begins.command) ≡ None → began.verdict ≡ None
+  none-then none = sym verdict-is ∙ none
 
-      same_began : accepted begins.command (docket_begun book.docket actor) ≡ began
-      same_began = λ i. record { command = begins.command; verdict = sym none i; changes = []; index = index i }
+  index : docket_begun book.docket actor ≡ begun_by (actor_of begins.command) book.ledger.entries
+  index = whole.numbers.counts actor ∙ ap (λ a. begun_by a book.ledger.entries) (sym own)
 
-      by : (of : Option ℕ) → user_in begins.command ≡ of → AcceptedTask begins.command birth of begins.task
-          → TaskStands (ground_of book) begins.task began
-      by (Some user) of (first, is_first, shows) =
-          let line = timeline book.tree.disk machine in
-          let mine : user ≡ user_of first = same_Some user (user_of first) (sym of ∙ shows.owned) in
-          let present : (facts_in book begins.command).present ≡ is_some (own_record (own_of (user_of first) line)) =
-          ap (λ f. f.present) facts-agree ∙ ap (λ o. is_present o (fold_changes machine.log)) shows.owned
-          ∙ sym (there-user book.seed line (user_of first) whole.worlds)
-          ∙ sym (there-record book.seed line (user_of first) whole.worlds) in
-          subst (λ t. TaskStands (ground_of book) t began) (sym is_first)
-          (subst (λ b. Rests (rest_of book.seed first) b began (own_of (user_of first) line)) (sym whole.agrees.boot)
-          (subst (λ b. Rests (rest_of book.seed first) book.tracker.boot b (own_of (user_of first) line)) same_began
-          (shows.rests book.seed (facts_in book begins.command) (own_of (user_of first) line) present is)))
-      by None of first =
-          let recovers = no-user begins.command of in
-          let boot : actor ≡ Boot = sym own ∙ ap actor_of recovers in
-          subst (λ t. TaskStands (ground_of book) t began) (sym first) (
-            record { command = recovers; verdict = none },
-            whole.agrees.phase
-                ∙ ready-down book.tracker.phase (subst (TakesTurn book.tracker.phase) boot takes)
-                (subst (λ c. refusal_of c (facts_in book begins.command) ≡ None) recovers is),
-          )
+  same_began : began.verdict ≡ None → accepted begins.command (docket_begun book.docket actor) ≡ began
+  same_began none = λ i. record { command = begins.command; verdict = sym none i; changes = []; index = index i }
+
+  -- a command that begins stands where its first task says, and holds nothing
+  pub record StandsFirst (task : Task) : Type 0 where
+    pub stands : TaskStands (ground_at book.seed (begun_seen task book.bench) machine') task began
+    pub empty : held_in task ≡ []
+
+  accepted-stands : began.verdict ≡ None
+      → refusal_of begins.command (facts_in book.bench.places book begins.command) ≡ None → (of : Option ℕ)
+      → user_in begins.command ≡ of → (task : Task) → AcceptedTask begins.command birth book.boot_seed of task
+      → StandsFirst task
+  accepted-stands none accepted_it (Some user) of task (first, is_first, shows) =
+      let line = timeline book.bench.disk machine in
+      let vault = vault_of book.seed book.bench.store in
+      let share = share_of (user_of first) (ground_of book) in
+      let present : (facts_in book.bench.places book begins.command).present
+      ≡ is_some (own_record (own_of (user_of first) line)) =
+      ap (λ f. f.present) facts-agree ∙ ap (λ o. is_present o (fold_changes machine.log)) shows.owned
+      ∙ sym (there-user vault line (user_of first) whole.worlds)
+      ∙ sym (there-record vault line (user_of first) whole.worlds) in
+      subst StandsFirst (sym is_first) (record {
+        stands = subst (λ b. Rests (rest_of first) b began share) (sym whole.agrees.boot)
+            (subst (λ b. Rests (rest_of first) book.tracker.boot b share) (same_began none)
+            (shows.rests (facts_in book.bench.places book begins.command) share present accepted_it whole.seeded));
+        empty = shows.held;
+      })
+  accepted-stands none accepted_it None of task first =
+      let recovers = no-user begins.command of in
+      let boot : actor ≡ Boot = sym own ∙ ap actor_of recovers in
+      subst StandsFirst (sym first) (record {
+        stands = (
+          record { command = recovers; verdict = none },
+          (
+            whole.agrees.phase ∙ ready-down book.tracker.phase (subst (TakesTurn book.tracker.phase) boot takes)
+                (subst (λ c. refusal_of c (facts_in book.bench.places book begins.command) ≡ None) recovers
+                accepted_it),
+            refl,
+          ),
+        );
+        empty = refl;
+      })
+
+  first-stands : (verdict : Option Reply)
+      → refusal_of begins.command (facts_in book.bench.places book begins.command) ≡ verdict
+      → FirstTask begins.command birth book.boot_seed verdict begins.task → StandsFirst begins.task
+  first-stands (Some reply) verdict first =
+      subst StandsFirst (sym first) (record {
+        stands = (
+          sym verdict-is ∙ verdict,
+          refusal-kind begins.command (facts_in book.bench.places book begins.command) reply verdict,
+        );
+        empty = refl;
+      })
+  first-stands None verdict first =
+      accepted-stands (none-then verdict) verdict (user_in begins.command) refl begins.task first
+
+  begins-stands : StandsFirst begins.task
+  begins-stands =
+      first-stands (refusal_of begins.command (facts_in book.bench.places book begins.command)) refl is.first
 
   abbrev mine : Running
   mine = record { number = begins.number; task = begins.task }
@@ -165,7 +199,7 @@ module _ (book : Plain) (actor : Actor) (after : Plain) (whole : Whole book)
   fresh : ¬ (Contains (numbers_begun book.ledger.entries) begins.number)
   fresh =
       first-fresh actor_total actor_exact actor_of book.docket
-      (numbers_begun book.ledger.entries) whole.numbers.accounted actor begins.number begins.numbers begins.queued
+      (numbers_begun book.ledger.entries) whole.numbers.accounted actor begins.number begins.numbers is.queued
 
   -- no command of the actor is on the machine
   nothing-on : (n : ℕ) (b : BeganCommand) → map.get machine.running n ≡ Some b → actor_of b.command ≢ actor
@@ -196,7 +230,7 @@ module _ (book : Plain) (actor : Actor) (after : Plain) (whole : Whole book)
   given-now n b at = elim (decide_key nat_cmp_total nat_cmp-IsAntisymmetric n begins.number) [
     | inl same ↦
         let own : b ≡ began = same_Some b began (sym at ∙ ap (map.get machine'.running) same ∙ on_here) in record {
-          given = ap (slice_get book.docket.commands) same ∙ begins.given ∙ ap Some (sym (ap (λ r. r.command) own));
+          given = ap (slice_get book.docket.commands) same ∙ is.given ∙ ap Some (sym (ap (λ r. r.command) own));
           begun = subst (λ ns. Contains ns n) (sym numbers-are)
               (subst (Contains begun_now) (sym same)
               (Contains-push (numbers_begun book.ledger.entries) begins.number));
@@ -225,24 +259,40 @@ module _ (book : Plain) (actor : Actor) (after : Plain) (whole : Whole book)
   numbers-now = record {
     accounted = subst (λ ns. Accounted actor_of ns docket') (sym numbers-are)
         (accounted-begun actor_total actor_exact actor_of book.docket (numbers_begun book.ledger.entries)
-        whole.numbers.accounted actor begins.number begins.numbers begins.queued mine);
+        whole.numbers.accounted actor begins.number begins.numbers is.queued mine);
     as_given =
-        all_given-append book.docket.commands book.ledger.entries entry whole.numbers.as_given (begins.given, sym own);
+        all_given-append book.docket.commands book.ledger.entries entry whole.numbers.as_given (is.given, sym own);
     given = given-now;
     counts = counts-now;
     boots = whole.numbers.boots;
     few = whole.numbers.few;
   }
 
+  -- a recovery begins where nobody runs, and what else begins leaves the ground
+  ground-stays : (task : Task) → StandsFirst task → (other : Actor) (o : Running) → other ≢ actor
+      → map.get book.docket.running other ≡ Some o → (b : BeganCommand) → TaskStands (ground_of book) o.task b
+      → TaskStands (ground_at book.seed (begun_seen task book.bench) machine') o.task b
+  ground-stays (Using t) first other o differ was b stands = stands
+  ground-stays (Recovers recovery) first other o differ was b stands =
+      absurd (nobody book.tracker.phase (sym whole.agrees.phase ∙ first.stands.1.0) whole.phase takes)
+    where
+      nobody : (phase : Phase) → phase ≡ Down → PhaseStands phase book machine → TakesTurn phase actor → ⊥
+      nobody Up down phase takes = cc
+      nobody Down down phase takes = differ (phase.1 other o was ∙ sym takes)
+      nobody Halted down phase takes = takes
+  ground-stays (Refusal reply) first other o differ was b stands = stands
+  ground-stays (Fault device held) first other o differ was b stands = stands
+
   run-now : (other : Actor) → other ≢ actor → (o : Running) → map.get running' other ≡ Some o
-      → RunsOn (ground_of book) machine' other o
+      → RunsOn ground' machine' other o
   run-now other differ o at =
       let was : map.get book.docket.running other ≡ Some o = sym (there other differ) ∙ at in
       let run = whole.run other o was in record {
         began = run.began;
         at = on_other o.number (not-fresh other o was) ∙ run.at;
         own = run.own;
-        stands = run.stands;
+        stands = ground-stays begins.task begins-stands other o differ was run.began run.stands;
+        holds = record { differ = run.holds.differ; own = run.holds.own };
       }
 
   all-now : AllRun machine' running'
@@ -258,31 +308,37 @@ module _ (book : Plain) (actor : Actor) (after : Plain) (whole : Whole book)
   ]
 
   abbrev after_begins : Plain
-  after_begins = record book {
-    ledger = record book.ledger { entries = book.ledger.entries ++ entry ∷ [] };
-    docket = docket';
-  }
+  after_begins = begun_plain book actor begins
 
-  stands-now : (phase : Phase) → TakesTurn phase actor → PhaseStands phase book machine
+  stands-now : (phase : Phase) → machine.phase ≡ phase → TakesTurn phase actor → PhaseStands phase book machine
       → PhaseStands phase after_begins machine'
-  stands-now Up takes stands = stands
-  stands-now Down takes stands = (
+  stands-now Up is_phase takes stands = known begins.task begins-stands
+    where
+      known : (task : Task) → StandsFirst task → Knows (begun_seen task book.bench).places (view book.bench.disk)
+      known (Using t) first = stands
+      known (Recovers recovery) first = absurd (up_down (sym is_phase ∙ first.stands.1.0))
+        where
+          up_down : Up ≡ Down → ⊥
+          up_down e = cc
+      known (Refusal reply) first = stands
+      known (Fault device held) first = stands
+  stands-now Down is_phase takes stands = (
     stands.0,
     at_actors actor (λ a. (o : Running) → map.get running' a ≡ Some o → a ≡ Boot) (λ o at. takes)
         (λ other differ o at. stands.1 other o (sym (there other differ) ∙ at)),
   )
-  stands-now Halted takes stands = absurd takes
+  stands-now Halted is_phase takes stands = absurd takes
 
-  -- so the Book is whole, where the charges are
-  pub whole-begun : IsCharged after_begins → Whole after_begins
-  whole-begun charged =
+  -- so the Book is whole, where what doesn't speak of the machine stands
+  pub whole-begun : Steady after_begins → Whole after_begins
+  whole-begun steady =
       whole-of after_begins machine' (machine_after-append book.ledger.entries entry)
       (legal-append book.ledger.entries entry whole.legal (record {
         own = sym own;
         idle = λ n. if-nothing-on n (map.get machine.running n) refl;
         fresh = fresh;
         takes = subst (λ p. TakesTurn p actor) (sym whole.agrees.phase) takes;
-      })) whole.short charged (record {
+      })) steady (record {
         agrees = record {
           phase = whole.agrees.phase;
           boot = whole.agrees.boot;
@@ -292,14 +348,18 @@ module _ (book : Plain) (actor : Actor) (after : Plain) (whole : Whole book)
         };
         worlds = whole.worlds;
         numbers = numbers-now;
-        run = at_actors actor (λ a. (o : Running) → map.get running' a ≡ Some o → RunsOn (ground_of book) machine' a o)
-            (λ o at. subst (RunsOn (ground_of book) machine' actor) (same_Some mine o (sym here ∙ at)) (record {
+        run = at_actors actor (λ a. (o : Running) → map.get running' a ≡ Some o → RunsOn ground' machine' a o)
+            (λ o at. subst (RunsOn ground' machine' actor) (same_Some mine o (sym here ∙ at)) (record {
               began = began;
               at = on_here;
               own = own;
-              stands = first-stands (refusal_of begins.command (facts_in book begins.command)) refl begins.first;
+              stands = begins-stands.stands;
+              holds = subst (HoldsOwn ground' actor) (sym begins-stands.empty) (record {
+                differ = tt;
+                own = λ blob has. absurd (Contains-none blob has);
+              });
             }))
             run-now;
         all = all-now;
-        phase = stands-now book.tracker.phase takes whole.phase;
+        phase = stands-now book.tracker.phase whole.agrees.phase takes whole.phase;
       })

@@ -1,155 +1,238 @@
--- Replies that tell of a failure stay charged to failures of the device, through each turn, stop and restart.
-use Rattle.std.proofs.Common.{◌≡◌, ◌≤◌, inl, inr, ◌+◌, ℕ, Bool, true, false, List, [], ◌∷◌, ◌++◌, refl, ap, ◌∙◌, arith}
+-- Replies that tell of a failure stay charged to failures of their devices, through each turn, stop and restart.
+use Rattle.std.proofs.Common.{◌≡◌, ◌≤◌, ◌⊎◌, inl, inr, ◌+◌, ◌-◌, ◌^◌, ℕ, List, [], ◌∷◌, ◌++◌, refl, ap}
+use Rattle.std.proofs.Common.{subst, sym, arith}
 use Rattle.std.specs.Prelude.{Option, Some, None, Ok}
 use Rattle.std.specs.FinMap as map
 use Rattle.tree_model.specs.declared.ops.Cut.{Cut}
-use Rattle.tree_model.specs.Disk.{Disk}
-use Rattle.tree_model.specs.Counted.{IsCounted}
+use Rattle.tree_model.specs.Counted.{Rose}
 use Rattle.journal_model.specs.declared.commands.Actor.{Actor}
 use Rattle.journal_model.specs.declared.commands.Command.{Command}
 use Rattle.journal_model.specs.declared.commands.Reply.{Reply}
 use Rattle.journal_model.specs.declared.commands.Reply.TheVariants.{Done, Ended, UserExists, Ready}
 use Rattle.journal_model.specs.declared.commands.Reply.TheVariants.{TreeFault, StoreFault}
 use Rattle.journal_model.specs.declared.entries.Birth.{Birth}
+use Rattle.journal_model.specs.declared.entries.Device.{Device}
+use Rattle.journal_model.specs.declared.entries.Device.TheVariants.{Tree as TreeDevice, Store as StoreDevice}
 use Rattle.journal_model.specs.declared.entries.Entry.{Entry}
 use Rattle.journal_model.specs.declared.entries.Entry.TheVariants.{Began, Stopped, Restarted, Replied}
 use Rattle.journal_model.specs.Actor.{actor_cmp, actor_total, actor_exact}
 use Rattle.journal_model.specs.Command.{user_in}
-use Rattle.user_world.specs.declared.changes.LocalChange.{LocalChange}
-use Rattle.user_world.specs.declared.turns.Call.{Call}
-use Rattle.user_world.specs.declared.turns.Call.TheVariants.{Op as OpCall, Sync, List as ListCall}
 use Rattle.sorted_map.specs.Sums.{total_by}
 use Rattle.sorted_map.proofs.Sums.{worth, sum-insert, sum-remove}
 use Rattle.docket.proofs.Accounts.{sum-empty}
+use Rattle.user_world.specs.declared.changes.LocalChange.{LocalChange}
+use Rattle.task_turns.specs.declared.calls.Call.{Call}
+use Rattle.task_turns.specs.declared.calls.Call.TheVariants.{Op as OpCall, Sync, List as ListCall, Read}
+use Rattle.task_turns.specs.declared.calls.Call.TheVariants.{Generate, Encrypt, Entries}
+use Rattle.bench.specs.declared.made.Made.{Made}
+use Rattle.bench.specs.declared.made.Made.TheVariants.{Heard, Failed}
+use Rattle.bench.specs.Bench.{Plain as Seen, AreCounted, IsMade, device_of, told_of}
 use Rattle.vold_book.specs.declared.tasks.Running.{Running}
 use Rattle.vold_book.specs.declared.tasks.Task.{Task}
-use Rattle.vold_book.specs.declared.tasks.Task.TheVariants.{Fault}
-use Rattle.vold_book.specs.Calls.{as_answer, entry_of}
+use Rattle.vold_book.specs.declared.tasks.Task.TheVariants.{User as Using, Recovery as Recovers, Refusal, Fault}
+use Rattle.vold_book.specs.Entries.{made_entry, entry_of}
 use Rattle.vold_book.specs.Parts.{with_entry}
-use Rattle.vold_book.specs.State.{Docket, Plain, Device}
+use Rattle.vold_book.specs.State.{Plain}
 use Rattle.vold_book.specs.Stops.{after_stop, after_restart}
-use Rattle.vold_book.specs.Turns.{FirstTask, AcceptedTask, Called, task_after}
-use Rattle.vold_book.specs.Turns.{made_entry, after_call, after_reply, IsNoted}
-use Rattle.vold_book.specs.Whole.{charge_of, charge_in, due_in, due_of, IsCharged}
+use Rattle.vold_book.specs.Tasks.{fault_of}
+use Rattle.vold_book.specs.Turns.{FirstTask, AcceptedTask, Making, IsNoted, IsFault}
+use Rattle.vold_book.specs.Turns.{after_call, with_command, new_book, opened_at}
+use Rattle.vold_book.specs.Whole.{charge_of, charge_in, due_in, due_of, same_device, faults_of, IsCharged}
+use Rattle.vold_book.proofs.Plains.{Beginning, begun_plain, begun_seen, work_of, replied_plain}
+use Rattle.vold_book.proofs.Shown.{due_made}
 
-charges-append : (entries : List Entry) (entry : Entry)
-    → total_by charge_in (entries ++ entry ∷ []) ≡ total_by charge_in entries + charge_in entry
-charges-append [] entry = omega arith
-charges-append (first ∷ entries) entry = let rest = charges-append entries entry in omega (arith, rest)
+charges-append : (device : Device) (entries : List Entry) (entry : Entry)
+    → total_by (charge_in device) (entries ++ entry ∷ [])
+    ≡ total_by (charge_in device) entries + charge_in device entry
+charges-append device [] entry = omega arith
+charges-append device (first ∷ entries) entry = let rest = charges-append device entries entry in omega (arith, rest)
 
 -- the entry of a call is one of its command, and charges nothing
-pub noted-entry : (made : Bool) (number : ℕ) (call : Call) (change : Option LocalChange)
+pub noted-entry : (made : Made) (number : ℕ) (call : Call) (change : Option LocalChange)
     → IsNoted number (made_entry made (entry_of number call change))
-noted-entry false number call change = tt
-noted-entry true number (OpCall user op) None = tt
-noted-entry true number (OpCall user op) (Some change) = inr (_, refl)
-noted-entry true number Sync change = inl refl
-noted-entry true number ListCall change = tt
+noted-entry (Failed device) number call change = tt
+noted-entry (Heard answer) number (OpCall user op names) None = tt
+noted-entry (Heard answer) number (OpCall user op names) (Some change) = inr (_, refl)
+noted-entry (Heard answer) number Sync change = inl refl
+noted-entry (Heard answer) number ListCall change = tt
+noted-entry (Heard answer) number (Read place) change = tt
+noted-entry (Heard answer) number (Generate tag app_id) change = tt
+noted-entry (Heard answer) number (Encrypt blob app_id nonce key) change = tt
+noted-entry (Heard answer) number Entries change = tt
 
-charges-noted : (number : ℕ) (entries : List Entry) (entry : Option Entry) → IsNoted number entry
-    → total_by charge_in (with_entry entries entry) ≡ total_by charge_in entries
-charges-noted number entries None noted = refl
-charges-noted number entries (Some entry) (inl is) =
-    let a = charges-append entries entry in let n = ap charge_in is in omega (arith, a, n)
-charges-noted number entries (Some entry) (inr (change, is)) =
-    let a = charges-append entries entry in let n = ap charge_in is in omega (arith, a, n)
+charges-noted : (device : Device) (number : ℕ) (entries : List Entry) (entry : Option Entry) → IsNoted number entry
+    → total_by (charge_in device) (with_entry entries entry) ≡ total_by (charge_in device) entries
+charges-noted device number entries None noted = refl
+charges-noted device number entries (Some entry) (inl is) =
+    let a = charges-append device entries entry in let n = ap (charge_in device) is in omega (arith, a, n)
+charges-noted device number entries (Some entry) (inr (change, is)) =
+    let a = charges-append device entries entry in let n = ap (charge_in device) is in omega (arith, a, n)
 
 -- what a reply charges was due
-due-told : (reply : Reply) (task : Task) → (reply ≡ TreeFault → task ≡ Fault) → charge_of reply ≤ due_in task
-due-told Done task told = omega arith
-due-told (Ended count) task told = omega arith
-due-told UserExists task told = omega arith
-due-told Ready task told = omega arith
-due-told TreeFault task told = let e = ap due_in (told refl) in omega (arith, e)
-due-told StoreFault task told = omega arith
+due-fault : (device : Device) (task : Task) → IsFault device task → due_in device task ≡ 1
+due-fault TreeDevice task fault = ap (due_in TreeDevice) fault.is
+due-fault StoreDevice task fault = ap (due_in StoreDevice) fault.is
 
-due-first : (command : Command) (birth : Birth) (verdict : Option Reply) (task : Task)
-    → FirstTask command birth verdict task
-    → due_in task ≡ 0
-due-first command birth (Some reply) task first = ap due_in first
-due-first command birth None task first = by (user_in command) first
+due-told : (device : Device) (reply : Reply) (task : Task) → (reply ≡ fault_of device → IsFault device task)
+    → charge_of device reply ≤ due_in device task
+due-told TreeDevice Done task told = omega arith
+due-told TreeDevice (Ended count) task told = omega arith
+due-told TreeDevice UserExists task told = omega arith
+due-told TreeDevice Ready task told = omega arith
+due-told TreeDevice TreeFault task told = let e = due-fault TreeDevice task (told refl) in omega (arith, e)
+due-told TreeDevice StoreFault task told = omega arith
+due-told StoreDevice Done task told = omega arith
+due-told StoreDevice (Ended count) task told = omega arith
+due-told StoreDevice UserExists task told = omega arith
+due-told StoreDevice Ready task told = omega arith
+due-told StoreDevice TreeFault task told = omega arith
+due-told StoreDevice StoreFault task told = let e = due-fault StoreDevice task (told refl) in omega (arith, e)
+
+pub due-first : (device : Device) (command : Command) (birth : Birth) (seed : List ℕ) (verdict : Option Reply)
+    (task : Task)
+    → FirstTask command birth seed verdict task
+    → due_in device task ≡ 0
+due-first device command birth seed (Some reply) task first = ap (due_in device) first
+due-first device command birth seed None task first = by (user_in command) first
   where
-    by : (user : Option ℕ) → AcceptedTask command birth user task → due_in task ≡ 0
-    by (Some user) (accepted, is, begins) = ap due_in is
-    by None is = ap due_in is
+    by : (user : Option ℕ) → AcceptedTask command birth seed user task → due_in device task ≡ 0
+    by (Some user) accepted = ap (due_in device) accepted.1
+    by None is = ap (due_in device) is
 
-module _ (book : Plain) (charged : IsCharged book) where
-  pub begun-charged : (actor : Actor) (number : ℕ) (command : Command) (numbers : List ℕ) (birth : Birth)
-      (verdict : Option Reply) (task : Task) (docket : Docket) → FirstTask command birth verdict task
-      → docket.running ≡ map.insert book.docket.running actor (record { number = number; task = task })
-      → IsCharged (record book {
-        ledger = record book.ledger { entries = book.ledger.entries ++ Began number actor command ∷ [] };
-        docket = docket;
-      })
-  begun-charged actor number command numbers birth verdict task docket first runs =
-      let a = charges-append book.ledger.entries (Began number actor command) in
-      let s = sum-insert actor_total due_of book.docket.running actor (record { number = number; task = task }) in
-      let r = ap (λ m. total_by due_of (map.values m)) runs in
-      let d = due-first command birth verdict task first in
+-- a device's failures don't get fewer, and rise where it fails, while it can count them
+record FaultsRise (before after : Seen) (device : Device) (due : ℕ) : Type 0 where
+  never_falls : faults_of before device ≤ faults_of after device
+  rose : (faults_of before device + due ≤ faults_of after device) ⊎ (2 ^ 64 - 1 ≤ faults_of after device)
+
+same-faults : (before after : Seen) (device : Device) → faults_of after device ≡ faults_of before device
+    → FaultsRise before after device 0
+same-faults before after device same = record { never_falls = omega (arith, same); rose = inl (omega (arith, same)) }
+
+module _ (before after : Seen) where
+  counted-heard : (device : Device) → faults_of before device ≤ faults_of after device
+      → FaultsRise before after device 0
+  counted-heard device never = record { never_falls = never; rose = inl (omega (arith, never)) }
+
+  counted-failed : (device : Device) → faults_of before device ≤ faults_of after device
+      → Rose (faults_of before device) (faults_of after device) → FaultsRise before after device 1
+  counted-failed device never rose = record {
+    never_falls = never;
+    rose = elim rose [
+      | inl more ↦ inl (omega (arith, more))
+      | inr full ↦ inr full
+    ];
+  }
+
+  faults-rise : (device counted : Device) (made : Made) → AreCounted before after counted (told_of (Ok made))
+      → ((failed : Device) → made ≡ Failed failed → failed ≡ counted)
+      → FaultsRise before after device (due_made device made)
+  faults-rise TreeDevice TreeDevice (Heard answer) are own = counted-heard TreeDevice are.0.never_falls
+  faults-rise TreeDevice StoreDevice (Heard answer) are own =
+      same-faults before after TreeDevice (ap (λ c. c.faults) are.0)
+  faults-rise StoreDevice TreeDevice (Heard answer) are own =
+      same-faults before after StoreDevice (ap (λ c. c.faults) are.1)
+  faults-rise StoreDevice StoreDevice (Heard answer) are own = counted-heard StoreDevice are.1.never_falls
+  faults-rise TreeDevice TreeDevice (Failed failed) are own =
+      subst (λ d. FaultsRise before after TreeDevice (same_device TreeDevice d)) (sym (own failed refl))
+      (counted-failed TreeDevice are.0.never_falls (are.0.failed refl))
+  faults-rise TreeDevice StoreDevice (Failed failed) are own =
+      subst (λ d. FaultsRise before after TreeDevice (same_device TreeDevice d)) (sym (own failed refl))
+      (same-faults before after TreeDevice (ap (λ c. c.faults) are.0))
+  faults-rise StoreDevice TreeDevice (Failed failed) are own =
+      subst (λ d. FaultsRise before after StoreDevice (same_device StoreDevice d)) (sym (own failed refl))
+      (same-faults before after StoreDevice (ap (λ c. c.faults) are.1))
+  faults-rise StoreDevice StoreDevice (Failed failed) are own =
+      subst (λ d. FaultsRise before after StoreDevice (same_device StoreDevice d)) (sym (own failed refl))
+      (counted-failed StoreDevice are.1.never_falls (are.1.failed refl))
+
+-- a call fails at its own device
+failed-own : (before after : Seen) (call : Call) (made : Made) → IsMade before after call (Ok made)
+    → (failed : Device) → made ≡ Failed failed → failed ≡ device_of call
+failed-own before after call (Heard answer) is_made failed is = cc
+failed-own before after call (Failed device) is_made failed is = cc
+
+-- what begins leaves the devices' counts
+begun-faults : (task : Task) (bench : Seen) (device : Device)
+    → faults_of (begun_seen task bench) device ≡ faults_of bench device
+begun-faults (Using task) bench device = refl
+begun-faults (Recovers recovery) bench TreeDevice = refl
+begun-faults (Recovers recovery) bench StoreDevice = refl
+begun-faults (Refusal reply) bench device = refl
+begun-faults (Fault failed held) bench device = refl
+
+module _ (book : Plain) (device : Device) (charged : IsCharged book device) where
+  pub begun-charged : (actor : Actor) (begins : Beginning) → due_in device begins.task ≡ 0
+      → IsCharged (begun_plain book actor begins) device
+  begun-charged actor begins none =
+      let a = charges-append device book.ledger.entries (Began begins.number actor begins.command) in
+      let s = sum-insert actor_total (due_of device) book.docket.running actor (work_of begins) in
+      let f = begun-faults begins.task book.bench device in
       elim charged [
-        | inl less ↦ inl (omega (arith, a, r, s, d, less))
-        | inr full ↦ inr full
+        | inl less ↦ inl (omega (arith, a, s, none, f, less))
+        | inr full ↦ inr (omega (arith, f, full))
       ]
 
-  pub called-charged : (actor : Actor) (number : ℕ) (call : Call) (change : Option LocalChange) (then : Task)
-      (called : Called Device)
-      → IsCounted book.tree.counts called.tree.counts (as_answer (Ok called.made)) → due_in then ≡ 0
-      → IsCharged (after_call book actor number call change then called)
-  called-charged actor number call change then called counted none = by called.made refl counted
-    where
-      by : (made : Bool) → called.made ≡ made → IsCounted book.tree.counts called.tree.counts (as_answer (Ok made))
-          → IsCharged (after_call book actor number call change then called)
-      by true is counted =
-          let a = charges-noted number book.ledger.entries (made_entry called.made (entry_of number call change))
-          (noted-entry called.made number call change) in
-          let s = sum-insert actor_total due_of book.docket.running actor
-          (record { number = number; task = task_after called.made then }) in
-          let d = ap (λ m. due_in (task_after m then)) is ∙ none in
-          let f = counted.never_falls in
-          elim charged [ inl less ↦ inl (omega (arith, a, s, d, f, less)) | inr full ↦ inr (omega (arith, f, full)) ]
-      by false is counted =
-          let a = charges-noted number book.ledger.entries (made_entry called.made (entry_of number call change))
-          (noted-entry called.made number call change) in
-          let s = sum-insert actor_total due_of book.docket.running actor
-          (record { number = number; task = task_after called.made then }) in
-          let d = ap (λ m. due_in (task_after m then)) is in
-          let f = counted.never_falls in
-          elim charged [
-            | inl less ↦ elim (counted.failed refl) [
-              | inl rose ↦ inl (omega (arith, a, s, d, rose, less))
-              | inr full ↦ inr full
-            ]
-            | inr full ↦ inr (omega (arith, f, full))
+  module _ (actor : Actor) (number : ℕ) (making : Making) (made : Made) (after : Seen)
+      (counted : AreCounted book.bench after (device_of making.call) (told_of (Ok made)))
+      (is_made : IsMade book.bench after making.call (Ok made)) where
+    pub called-charged : due_in device making.then ≡ due_made device made
+        → IsCharged (after_call book actor number making made after) device
+    called-charged due =
+        let a = charges-noted device number book.ledger.entries
+        (made_entry made (entry_of number making.call making.change))
+        (noted-entry made number making.call making.change) in
+        let s = sum-insert actor_total (due_of device) book.docket.running actor
+        (record { number = number; task = making.then }) in
+        let f = faults-rise book.bench after device (device_of making.call) made counted
+        (failed-own book.bench after making.call made is_made) in
+        let never = f.never_falls in
+        elim charged [
+          | inl less ↦ elim f.rose [
+            | inl rose ↦ inl (omega (arith, a, s, due, rose, less))
+            | inr full ↦ inr full
           ]
+          | inr full ↦ inr (omega (arith, never, full))
+        ]
 
   pub replied-charged : (actor : Actor) (it : Running) (command : Command) (reply : Reply)
-      → map.get book.docket.running actor ≡ Some it → (reply ≡ TreeFault → it.task ≡ Fault)
-      → IsCharged (after_reply book actor it.number command reply)
+      → map.get book.docket.running actor ≡ Some it → (reply ≡ fault_of device → IsFault device it.task)
+      → IsCharged (replied_plain book actor it command reply) device
   replied-charged actor it command reply runs told =
-      let a = charges-append book.ledger.entries (Replied it.number reply) in
-      let s = sum-remove actor_total due_of actor_exact book.docket.running actor in
-      let w = ap (worth due_of) runs in
-      let d = due-told reply it.task told in
+      let a = charges-append device book.ledger.entries (Replied it.number reply) in
+      let s = sum-remove actor_total (due_of device) actor_exact book.docket.running actor in
+      let w = ap (worth (due_of device)) runs in
+      let d = due-told device reply it.task told in
       elim charged [
         | inl less ↦ inl (omega (arith, a, s, w, d, less))
         | inr full ↦ inr full
       ]
 
-  pub stopped-charged : (disk : Disk) (cut : Cut) (kept : ℕ)
-      → IsCharged (after_stop book (record { disk = disk; counts = book.tree.counts }) cut kept)
-  stopped-charged disk cut kept =
-      let a = charges-append book.ledger.entries (Stopped kept) in
-      let none = sum-empty actor_cmp due_of in
+  pub given-charged : (command : Command) → IsCharged (with_command book command) device
+  given-charged command = charged
+
+  pub stopped-charged : (bench : Seen) (cut : Cut) (kept : ℕ)
+      → faults_of bench device ≡ faults_of book.bench device → IsCharged (after_stop book bench cut kept) device
+  stopped-charged bench cut kept same =
+      let a = charges-append device book.ledger.entries (Stopped kept) in
+      let none = sum-empty actor_cmp (due_of device) in
       elim charged [
-        | inl less ↦ inl (omega (arith, a, none, less))
-        | inr full ↦ inr full
+        | inl less ↦ inl (omega (arith, a, none, less, same))
+        | inr full ↦ inr (omega (arith, full, same))
       ]
 
-  pub restarted-charged : (level : ℕ)
-      → IsCharged (after_restart book (record { disk = book.tree.disk; counts = book.tree.counts }) level)
-  restarted-charged level =
-      let a = charges-append book.ledger.entries (Restarted (book.tracker.boot + 1) level) in
+  pub restarted-charged : (bench : Seen) (level : ℕ)
+      → faults_of bench device ≡ faults_of book.bench device → IsCharged (after_restart book bench level) device
+  restarted-charged bench level same =
+      let a = charges-append device book.ledger.entries (Restarted (book.tracker.boot + 1) level) in
       elim charged [
-        | inl less ↦ inl (omega (arith, a, less))
-        | inr full ↦ inr full
+        | inl less ↦ inl (omega (arith, a, less, same))
+        | inr full ↦ inr (omega (arith, full, same))
       ]
+
+-- a Book as it is opened
+pub opened-charged : (bench : Seen) (seed : List ℕ) (device : Device)
+    → IsCharged (new_book bench (opened_at bench.tree_counts bench.store_counts) seed) device
+opened-charged bench seed TreeDevice =
+    let none = sum-empty actor_cmp (due_of TreeDevice) in inl (omega (arith, none))
+opened-charged bench seed StoreDevice =
+    let none = sum-empty actor_cmp (due_of StoreDevice) in inl (omega (arith, none))

@@ -1,205 +1,259 @@
 -- Each turn that goes leaves fewer turns.
-use Rattle.std.proofs.Common.{◌≡◌, zero, suc, ℕ, ◌+◌, ◌*◌, ◌-◌, ◌<◌, Bool, true, false, cond, List, ◌∷◌, length, refl}
-use Rattle.std.proofs.Common.{sym, ap, ◌∙◌, arith}
-use Rattle.std.specs.Prelude.{Option, Some, None, IsSome, IsNone, is_some, Ok}
+use Rattle.std.proofs.Common.{◌≡◌, ◌≢◌, inl, inr, ℕ, ◌+◌, ◌<◌, T, true, false, cond, List, [], ◌∷◌}
+use Rattle.std.proofs.Common.{refl, sym, ap, ◌∙◌, subst, arith}
+use Rattle.std.proofs.lemmas.Option.{none-some}
+use Rattle.std.specs.Prelude.{Option, Some, None, IsNone, Ok, map as map_list}
+use Rattle.std.specs.declared.cmp.Ordering.{Ordering}
+use Rattle.std.specs.Cmp.{IsTotalOrder}
 use Rattle.std.specs.FinMap as map
-use Rattle.std.specs.Ordering.{eq_by_cmp}
-use Rattle.tree_model.specs.declared.places.Place.{Place}
+use Rattle.std.specs.FinMap.{IsAntisymmetric, entries_sorted}
+use Rattle.std.specs.FinMap.Entries.{find, is_sorted, below_all}
+use Rattle.std.specs.Ordering.{is_eq, eq_by_cmp}
+use Rattle.tree_model.proofs.Logic.{is_equal, T_first, T_second, T_less}
+use Rattle.tree_model.proofs.Maps.{tied, decide_key, get-remove_same, get-remove_other, insert-remove}
 use Rattle.tree_model.specs.declared.sites.LocalOp.{LocalOp}
 use Rattle.tree_model.specs.declared.sites.LocalOp.TheVariants.{MakeDir, Write, RenameFile}
 use Rattle.tree_model.specs.declared.sites.LocalOp.TheVariants.{RenameDir, RemoveFile, RemoveDir}
-use Rattle.tree_model.specs.Dir.{Files}
-use Rattle.tree_model.specs.Order.{place_cmp, place_total}
-use Rattle.tree_model.specs.Tree.{Tree, if_there, after_op}
-use Rattle.tree_model.specs.Disk.{Disk, view, with_op}
-use Rattle.tree_model.specs.Sites.{place_of, op_of}
+use Rattle.tree_model.specs.Disk.{view}
 use Rattle.tree_model.specs.Parts.{part_of, LocalFits}
-use Rattle.tree_model.proofs.Images.{applied-append}
 use Rattle.journal_model.specs.declared.commands.Actor.{Actor}
+use Rattle.journal_model.specs.declared.commands.Actor.TheVariants.{Boot}
 use Rattle.journal_model.specs.declared.commands.Command.{Command}
 use Rattle.journal_model.specs.declared.commands.Reply.{Reply}
 use Rattle.journal_model.specs.declared.entries.Birth.{Birth}
+use Rattle.journal_model.specs.declared.phase.Phase.TheVariants.{Down}
 use Rattle.journal_model.specs.Actor.{actor_total, actor_exact}
-use Rattle.journal_model.specs.Command.{user_in}
-use Rattle.user_world.specs.declared.turns.Call.{Call}
-use Rattle.user_world.specs.declared.turns.Call.TheVariants.{Op as OpCall, Sync, List as ListCall}
-use Rattle.user_world.specs.Turns.{adds_local, takes_local}
+use Rattle.journal_model.specs.Command.{actor_of, user_in}
+use Rattle.journal_model.proofs.ByCommand.{no-user}
 use Rattle.sorted_map.specs.Sums.{total_by}
 use Rattle.sorted_map.proofs.Sums.{worth, sum-insert, sum-remove}
-use Rattle.docket.specs.Docket.{with_queue}
 use Rattle.docket.proofs.Accounts.{sum-left}
+use Rattle.step_core.specs.Table.{NamedPlaces}
+use Rattle.task_turns.specs.declared.calls.Answer.{Answer}
+use Rattle.task_turns.specs.declared.calls.Call.{Call}
+use Rattle.task_turns.specs.declared.calls.Call.TheVariants.{Op as OpCall, Sync, List as ListCall, Read}
+use Rattle.task_turns.specs.declared.calls.Call.TheVariants.{Generate, Encrypt, Entries}
+use Rattle.bench.specs.declared.made.Made.{Made}
+use Rattle.bench.specs.declared.made.Made.TheVariants.{Heard, Failed}
+use Rattle.bench.specs.Bench.{Plain as Seen, Fits, Does, IsFailed, IsFailedOp, IsMade}
+use Rattle.user_tasks.specs.Tasks.{UserTask}
+use Rattle.vold_book.specs.declared.recovery.Recovery.{Recovery}
 use Rattle.vold_book.specs.declared.tasks.Running.{Running}
 use Rattle.vold_book.specs.declared.tasks.Task.{Task}
-use Rattle.vold_book.specs.Calls.{IsFailedOp, Fits, IsMade, IsFailed}
-use Rattle.vold_book.specs.Places.{PlaceMap}
-use Rattle.vold_book.specs.State.{Plain, Device}
-use Rattle.vold_book.specs.Turns.{FirstTask, AcceptedTask, Called, task_after}
-use Rattle.vold_book.specs.Whole.{turns_of_task, turns_of}
-use Rattle.vold_book.proofs.Shown.{CallFalls}
+use Rattle.vold_book.specs.declared.tasks.Task.TheVariants.{User as Using, Recovery as Recovers, Refusal, Fault}
+use Rattle.vold_book.specs.State.{Plain, machine_of, ground_of}
+use Rattle.vold_book.specs.Tasks.{TaskStands, RunsOn}
+use Rattle.vold_book.specs.Turns.{FirstTask, AcceptedTask, Making, after_call}
+use Rattle.vold_book.specs.Whole.{Whole, PhaseStands, most_turns, turns_of_task, turns_of, turns_left}
+use Rattle.vold_book.proofs.Plains.{Beginning, begun_plain, begun_seen, work_of, replied_plain}
+use Rattle.vold_book.proofs.Shown.{CallFalls, cost_made}
+use Rattle.vold_book.proofs.Sizes.{len-with_op}
 
-module _ (tree : Tree) (place : Place) where
-  len-new : (files : Files) → IsNone (map.get tree place) → map.len (map.insert tree place files) ≡ map.len tree + 1
-  len-new files none =
-      map.len-insert place_total tree place files ∙ ap (λ t. cond t (map.len tree) (map.len tree + 1)) none
+-- two counts that agree on each value of a map have one sum
+module _ {K X : Type 0} {R : K → K → Ordering} (total : IsTotalOrder R) (exact : IsAntisymmetric R) (f g : X → ℕ) where
+  none-below : (k : K) (rows : List (K × X)) → T (below_all R k rows) → find R k rows ≡ None
+  none-below k [] below = refl
+  none-below k (row ∷ rows) below =
+      ap (λ order. cond (is_eq order) (Some row.1) (find R k rows)) (T_less (R k row.0) (T_first _ _ below))
+      ∙ none-below k rows (T_second _ _ below)
 
-  len-there : (files : Files) → IsSome (map.get tree place) → map.len (map.insert tree place files) ≡ map.len tree
-  len-there files there =
-      map.len-insert place_total tree place files ∙ ap (λ t. cond t (map.len tree) (map.len tree + 1)) there
+  found-later : (row : K × X) (rows : List (K × X)) (k : K) (x : X) → T (below_all R row.0 rows)
+      → find R k rows ≡ Some x → find R k (row ∷ rows) ≡ Some x
+  found-later row rows k x below found =
+      elim (eq_by_cmp R k row.0) as (λ same. eq_by_cmp R k row.0 ≡ same
+      → cond same (Some row.1) (find R k rows) ≡ Some x) [
+        | true ↦ λ is. absurd (none-some x (sym (subst (λ at. find R at rows ≡ None)
+            (sym (exact k row.0 (is_equal _ is))) (none-below row.0 rows below)) ∙ found))
+        | false ↦ λ is. found
+      ] refl
 
-  some_len : IsSome (map.get tree place) → 0 < map.len tree
-  some_len there = above (map.len tree) refl
-    where
-      nothing : map.len tree ≡ 0 → ⊥
-      nothing e = none (sym there ∙ ap (λ t. is_some (map.get t place)) (map.empty_of_len tree e)
-          ∙ ap is_some (map.get-empty {X = Files} place_cmp place))
-        where
-          none : true ≡ false → ⊥
-          none e = cc
+  same-rows : (rows : List (K × X)) → T (is_sorted R rows)
+      → ((k : K) (x : X) → find R k rows ≡ Some x → f x ≡ g x)
+      → total_by f (map_list (λ row. row.1) rows) ≡ total_by g (map_list (λ row. row.1) rows)
+  same-rows [] sorted same = refl
+  same-rows (row ∷ rows) sorted same =
+      let below = T_first (below_all R row.0 rows) (is_sorted R rows) sorted in
+      let here = same row.0 row.1
+      (ap (λ t. cond t (Some row.1) (find R row.0 rows)) (tied total exact row.0 row.0 refl)) in
+      let rest = same-rows rows (T_second (below_all R row.0 rows) (is_sorted R rows) sorted)
+      (λ k x found. same k x (found-later row rows k x below found)) in
+      omega (arith, here, rest)
 
-      above : (n : ℕ) → map.len tree ≡ n → 0 < n
-      above zero e = absurd (nothing e)
-      above (suc n) e = omega arith
+  pub same-sums : (m : map.FinMap R X) → ((k : K) (x : X) → map.get m k ≡ Some x → f x ≡ g x)
+      → total_by f (map.values m) ≡ total_by g (map.values m)
+  same-sums m same =
+      same-rows (map.entries m) (entries_sorted m) (λ k x found. same k x (map.get-entries m k ∙ found))
 
-  len-gone : IsSome (map.get tree place) → map.len (map.remove tree place) + 1 ≡ map.len tree
-  len-gone there =
-      let gone = map.len-remove place_total tree place ∙ ap (λ t. cond t (map.len tree - 1) (map.len tree)) there in
-      let some = some_len there in
-      omega (arith, gone, some)
+  -- the sum by another count once one value is another, where the counts agree on the others
+  pub sum-changed : (m : map.FinMap R X) (k : K) (v : X)
+      → ((q : K) (x : X) → q ≢ k → map.get m q ≡ Some x → g x ≡ f x)
+      → total_by g (map.values (map.insert m k v)) + worth f (map.get m k) ≡ total_by f (map.values m) + g v
+  sum-changed m k v agree =
+      let put = sum-insert total g (map.remove m k) k v in
+      let none = ap (worth g) (get-remove_same total exact m k) in
+      let back = ap (λ n. total_by g (map.values n)) (insert-remove total exact m k v) in
+      let less = sum-remove total f exact m k in
+      let same = same-sums (map.remove m k) (λ q x at. elim (decide_key total exact q k) [
+        | inl is ↦ absurd (none-some x (sym (ap (map.get (map.remove m k)) is ∙ get-remove_same total exact m k) ∙ at))
+        | inr differ ↦ sym (agree q x differ (sym (get-remove_other total exact m k q differ) ∙ at))
+      ]) in
+      omega (arith, put, none, back, less, same)
 
--- how an operation changes the number of directories
-len-op : (tree : Tree) (user : ℕ) (op : LocalOp) → LocalFits (part_of tree user) op
-    → map.len (after_op tree (op_of user op)) + takes_local op ≡ map.len tree + adds_local op
-len-op tree user (MakeDir site) fits = let e = len-new tree (place_of user site) map.empty fits in omega (arith, e)
-len-op tree user (Write site file bytes) fits = written (map.get tree place) refl
-  where
-    place : Place
-    place = place_of user site
-
-    written : (found : Option Files) → map.get tree place ≡ found
-        → map.len (if_there found tree (λ files. map.insert tree place (map.insert files file bytes))) + 0
-        ≡ map.len tree + 0
-    written None e = refl
-    written (Some files) e = let l = len-there tree place (map.insert files file bytes) fits in omega (arith, l)
-len-op tree user (RenameFile site from to) fits = absurd fits
-len-op tree user (RenameDir from to) fits = renamed (map.get tree here) refl
-  where
-    here : Place
-    here = place_of user from
-
-    there : Place
-    there = place_of user to
-
-    free : IsNone (map.get (map.remove tree here) there)
-    free =
-        ap is_some (map.get-remove place_total tree here there)
-        ∙ either (eq_by_cmp place_cmp there here) (map.get tree there) fits.1
-      where
-        either : (t : Bool) (found : Option Files) → IsNone found → is_some (cond t None found) ≡ false
-        either true found none = refl
-        either false found none = none
-
-    renamed : (found : Option Files) → map.get tree here ≡ found
-        → map.len (if_there found tree (λ files. map.insert (map.remove tree here) there files)) + 0 ≡ map.len tree + 0
-    renamed None e = refl
-    renamed (Some files) e =
-        let l = len-new (map.remove tree here) there files free in
-        let r = len-gone tree here fits.0 in
-        omega (arith, l, r)
-len-op tree user (RemoveFile site file) fits = absurd fits
-len-op tree user (RemoveDir site) fits = let r = len-gone tree (place_of user site) fits in omega (arith, r)
-
-len-with_op : (disk : Disk) (user : ℕ) (op : LocalOp) → LocalFits (part_of (view disk) user) op
-    → map.len (view (with_op disk (op_of user op))) + takes_local op ≡ map.len (view disk) + adds_local op
-len-with_op disk user op fits =
-    ap (λ t. map.len t + takes_local op) (applied-append disk.stable disk.pending (op_of user op))
-    ∙ len-op (view disk) user op fits
-
-failed-op-len : (user : ℕ) (op : LocalOp) (disk disk' : Disk) → LocalFits (part_of (view disk) user) op
-    → IsFailedOp disk disk' user op → map.len (view disk') ≡ map.len (view disk)
-failed-op-len user (MakeDir site) disk disk' fits failed = ap (λ d. map.len (view d)) failed
-failed-op-len user (Write site file bytes) disk disk' fits failed =
-    let l = len-with_op disk user (Write site file failed.0) fits in
-    let e = ap (λ d. map.len (view d)) failed.1 in
+-- what a call leaves of the number of directories, with those that it made and removed
+failed-op-len : (before after : Seen) (user : ℕ) (op : LocalOp) → LocalFits (part_of (view before.disk) user) op
+    → IsFailedOp before after user op → map.len (view after.disk) ≡ map.len (view before.disk)
+failed-op-len before after user (MakeDir site) fits failed = ap (λ b. map.len (view b.disk)) failed
+failed-op-len before after user (Write site file bytes) fits failed =
+    let l = len-with_op before.disk user (Write site file failed.0) fits in
+    let e = ap (λ b. map.len (view b.disk)) failed.1 in
     omega (arith, l, e)
-failed-op-len user (RenameFile site from to) disk disk' fits failed = absurd fits
-failed-op-len user (RenameDir from to) disk disk' fits failed = ap (λ d. map.len (view d)) failed
-failed-op-len user (RemoveFile site file) disk disk' fits failed = absurd fits
-failed-op-len user (RemoveDir site) disk disk' fits failed = ap (λ d. map.len (view d)) failed
+failed-op-len before after user (RenameFile site from to) fits failed = absurd fits
+failed-op-len before after user (RenameDir from to) fits failed = ap (λ b. map.len (view b.disk)) failed
+failed-op-len before after user (RemoveFile site file) fits failed = absurd fits
+failed-op-len before after user (RemoveDir site) fits failed = ap (λ b. map.len (view b.disk)) failed
 
-failed-len : (call : Call) (disk disk' : Disk) → Fits (view disk) call → IsFailed disk disk' call
-    → map.len (view disk') ≡ map.len (view disk)
-failed-len (OpCall user op) disk disk' fits failed = failed-op-len user op disk disk' fits failed
-failed-len Sync disk disk' fits failed = ap (λ d. map.len (view d)) failed
-failed-len ListCall disk disk' fits failed = ap (λ d. map.len (view d)) failed
+failed-len : (before after : Seen) (call : Call) → Fits before call → IsFailed before after call
+    → map.len (view after.disk) ≡ map.len (view before.disk)
+failed-len before after (OpCall user op names) fits failed = failed-op-len before after user op fits failed
+failed-len before after Sync fits failed = ap (λ b. map.len (view b.disk)) failed
+failed-len before after ListCall fits failed = ap (λ b. map.len (view b.disk)) failed
+failed-len before after (Read place) fits failed = ap (λ b. map.len (view b.disk)) failed
+failed-len before after (Generate tag app_id) fits failed = ap (λ b. map.len (view b.disk)) failed
+failed-len before after (Encrypt blob app_id nonce key) fits failed = ap (λ b. map.len (view b.disk)) failed
+failed-len before after Entries fits failed = ap (λ b. map.len (view b.disk)) failed
 
--- a call leaves fewer turns, with the directories that it added or took, also where the device failed
-call-len : (call : Call) (task then : Task) (made : Bool) (disk disk' : Disk) (places places' : PlaceMap)
-    → CallFalls call task then → Fits (view disk) call → IsMade disk disk' places places' call (Ok made)
-    → map.len (view disk') + turns_of_task (task_after made then) < map.len (view disk) + turns_of_task task
-call-len (OpCall user op) task then true disk disk' places places' shows fits made =
-    let l = len-with_op disk user op fits in
-    let e = ap (λ d. map.len (view d)) made.0 in
-    let falls = shows.falls in
-    omega (arith, falls, l, e)
-call-len Sync task then true disk disk' places places' shows fits made =
-    let e = ap (λ d. map.len (view d)) made.0 in let falls = shows.falls in omega (arith, falls, e)
-call-len ListCall task then true disk disk' places places' shows fits made =
-    let e = ap (λ d. map.len (view d)) made.0 in let falls = shows.falls in omega (arith, falls, e)
-call-len call task then false disk disk' places places' shows fits made =
-    let same = failed-len call disk disk' fits made.0 in let lasts = shows.lasts in omega (arith, same, lasts)
+done-len : (before after : Seen) (call : Call) (answer : Answer) → Fits before call → Does before after call answer
+    → map.len (view after.disk) + (cost_made call (Heard answer)).takes
+    ≡ map.len (view before.disk) + (cost_made call (Heard answer)).makes
+done-len before after (OpCall user op names) answer fits does =
+    let l = len-with_op before.disk user op fits in
+    let e = ap (λ b. map.len (view b.disk)) does.1 in
+    omega (arith, l, e)
+done-len before after Sync answer fits does = ap (λ b. map.len (view b.disk) + 0) does.1
+done-len before after ListCall answer fits does = ap (λ b. map.len (view b.disk) + 0) does.2
+done-len before after (Read place) answer fits does = ap (λ b. map.len (view b.disk) + 0) does.1
+done-len before after (Generate tag app_id) answer fits does = ap (λ b. map.len (view b.disk) + 0) does.3
+done-len before after (Encrypt blob app_id nonce key) answer fits does = ap (λ b. map.len (view b.disk) + 0) does.1
+done-len before after Entries answer fits does = ap (λ b. map.len (view b.disk) + 0) does.1.2
 
-first-turns : (command : Command) (birth : Birth) (verdict : Option Reply) (task : Task)
-    → FirstTask command birth verdict task
-    → turns_of_task task < 15
-first-turns command birth (Some reply) task first = let e = ap turns_of_task first in omega (arith, e)
-first-turns command birth None task first = by (user_in command) first
+made-len : (before after : Seen) (call : Call) (made : Made) → Fits before call
+    → IsMade before after call (Ok made)
+    → map.len (view after.disk) + (cost_made call made).takes
+    ≡ map.len (view before.disk) + (cost_made call made).makes
+made-len before after call (Heard answer) fits is_made = done-len before after call answer fits is_made
+made-len before after call (Failed device) fits is_made =
+    let same = failed-len before after call fits is_made.1 in omega (arith, same)
+
+-- what begins has so many turns at most
+first-turns : (command : Command) (birth : Birth) (seed : List ℕ) (verdict : Option Reply) (task : Task)
+    → FirstTask command birth seed verdict task → (places : NamedPlaces)
+    → turns_of_task places task < most_turns
+first-turns command birth seed (Some reply) task first places =
+    let e = ap (turns_of_task places) first in omega (arith, e)
+first-turns command birth seed None task first places = by (user_in command) first
   where
-    by : (user : Option ℕ) → AcceptedTask command birth user task → turns_of_task task < 15
-    by (Some user) (accepted, is, begins) =
-        let e = ap turns_of_task is in let few = begins.few in omega (arith, e, few)
-    by None is = let e = ap turns_of_task is in omega (arith, e)
+    by : (user : Option ℕ) → AcceptedTask command birth seed user task → turns_of_task places task < most_turns
+    by (Some user) first = let e = ap (turns_of_task places) first.1 in let few = first.2.few in omega (arith, e, few)
+    by None first = let e = ap (turns_of_task places) first in omega (arith, e)
 
-no_worth : (found : Option Running) → IsNone found → worth turns_of found ≡ 0
-no_worth None e = refl
-no_worth (Some r) e = cc
+no_worth : (f : Running → ℕ) (found : Option Running) → IsNone found → worth f found ≡ 0
+no_worth f None e = refl
+no_worth f (Some r) e = cc
 
-module _ (book : Plain) (actor : Actor) where
-  -- the turns that are left once a command began
-  pub begun-falls : (number : ℕ) (numbers : List ℕ) (command : Command) (birth : Birth)
-      (verdict : Option Reply) (task : Task)
-      → IsNone (map.get book.docket.running actor) → map.get book.docket.waiting actor ≡ Some (number ∷ numbers)
-      → FirstTask command birth verdict task
-      → map.len (view book.tree.disk) + 15 * total_by length
-      (map.values (with_queue book.docket.waiting actor numbers))
-      + total_by turns_of (map.values (map.insert book.docket.running actor (record { number = number; task = task })))
-      < map.len (view book.tree.disk) + 15 * total_by length (map.values book.docket.waiting)
-      + total_by turns_of (map.values book.docket.running)
-  begun-falls number numbers command birth verdict task idle queue first =
-      let q = sum-left actor_total actor_exact book.docket.waiting actor number numbers queue in
-      let s = sum-insert actor_total turns_of book.docket.running actor (record { number = number; task = task }) in
-      let w = no_worth (map.get book.docket.running actor) idle in
-      let few = first-turns command birth verdict task first in
-      omega (arith, q, s, w, few)
+module _ (book : Plain) (whole : Whole book) where
+  -- a recovery is the boot's, on a machine that is down
+  other-turns : (places : NamedPlaces) (other : Actor) (o : Running) → map.get book.docket.running other ≡ Some o
+      → (book.tracker.phase ≡ Down → other ≡ Boot → ⊥)
+      → turns_of places o ≡ turns_of book.bench.places o
+  other-turns places other o at apart = by o.task run.stands
+    where
+      run : RunsOn (ground_of book) (machine_of book) other o
+      run = whole.run other o at
 
-  module _ (it : Running) (runs : map.get book.docket.running actor ≡ Some it) where
-    pub called-falls : (call : Call) (then : Task) (called : Called Device) → CallFalls call it.task then
-        → Fits (view book.tree.disk) call
-        → IsMade book.tree.disk called.tree.disk book.places called.places call (Ok called.made)
-        → map.len (view called.tree.disk) + total_by turns_of (map.values
-        (map.insert book.docket.running actor (record { number = it.number; task = task_after called.made then })))
-        < map.len (view book.tree.disk) + total_by turns_of (map.values book.docket.running)
-    called-falls call then called shows fits made =
-        let l = call-len call it.task then called.made book.tree.disk called.tree.disk book.places called.places
-        shows fits made in
-        let s = sum-insert actor_total turns_of book.docket.running actor
-        (record { number = it.number; task = task_after called.made then }) in
-        let w = ap (worth turns_of) runs in
-        omega (arith, l, s, w)
+      by : (task : Task) → TaskStands (ground_of book) task run.began
+          → turns_of_task places task ≡ turns_of_task book.bench.places task
+      by (Using task) stands = refl
+      by (Recovers recovery) stands = absurd
+          (apart (sym whole.agrees.phase ∙ stands.1.0) (sym run.own ∙ ap actor_of stands.0.command))
+      by (Refusal reply) stands = refl
+      by (Fault device held) stands = refl
 
-    pub replied-falls : 0 < turns_of_task it.task
-        → total_by turns_of (map.values (map.remove book.docket.running actor)) < total_by turns_of
-        (map.values book.docket.running)
-    replied-falls lasts =
-        let s = sum-remove actor_total turns_of actor_exact book.docket.running actor in
-        let w = ap (worth turns_of) runs in
-        omega (arith, s, w, lasts)
+  module _ (actor : Actor) where
+    -- fewer turns are left once a command began
+    module _ (begins : Beginning) (birth : Birth) (seed : List ℕ) (verdict : Option Reply) where
+      abbrev Starts : Task → Type 0
+      Starts task = FirstTask begins.command birth seed verdict task
+
+      begun-len : (task : Task) → map.len (view (begun_seen task book.bench).disk) ≡ map.len (view book.bench.disk)
+      begun-len (Using task) = refl
+      begun-len (Recovers recovery) = refl
+      begun-len (Refusal reply) = refl
+      begun-len (Fault device held) = refl
+
+      starts-recovery : Starts begins.task → {recovery : Recovery} → begins.task ≡ Recovers recovery
+          → actor_of begins.command ≡ Boot
+      starts-recovery first is = by verdict first
+        where
+          accepted : (user : Option ℕ) → user_in begins.command ≡ user
+              → AcceptedTask begins.command birth seed user begins.task → actor_of begins.command ≡ Boot
+          accepted (Some user) of first = absurd (unlike first.0 (sym first.1 ∙ is))
+            where
+              unlike : (task : UserTask) → {recovery : Recovery} → Using task ≡ Recovers recovery → ⊥
+              unlike task e = cc
+          accepted None of first = ap actor_of (no-user begins.command of)
+
+          by : (verdict : Option Reply) → FirstTask begins.command birth seed verdict begins.task
+              → actor_of begins.command ≡ Boot
+          by (Some reply) first = cc
+          by None first = accepted (user_in begins.command) refl first
+
+      pub begun-falls : IsNone (map.get book.docket.running actor)
+          → map.get book.docket.waiting actor ≡ Some (begins.number ∷ begins.numbers)
+          → actor_of begins.command ≡ actor → Starts begins.task
+          → turns_left (begun_plain book actor begins) < turns_left book
+      begun-falls idle queue own first =
+          let q = sum-left actor_total actor_exact book.docket.waiting actor begins.number begins.numbers queue in
+          let s = sum-changed actor_total actor_exact (turns_of book.bench.places)
+          (turns_of (begun_seen begins.task book.bench).places) book.docket.running actor (work_of begins)
+          (λ other o differ at. kept begins.task refl other o differ at) in
+          let w = no_worth (turns_of book.bench.places) (map.get book.docket.running actor) idle in
+          let few = first-turns begins.command birth seed verdict begins.task first
+          (begun_seen begins.task book.bench).places in
+          let same = begun-len begins.task in
+          omega (arith, q, s, w, few, same)
+        where
+          kept : (task : Task) → begins.task ≡ task → (other : Actor) (o : Running) → other ≢ actor
+              → map.get book.docket.running other ≡ Some o
+              → turns_of (begun_seen task book.bench).places o ≡ turns_of book.bench.places o
+          kept (Using task) is other o differ at = refl
+          kept (Recovers recovery) is other o differ at =
+              other-turns map.empty other o at
+              (λ down boot. differ (boot ∙ sym (starts-recovery first is) ∙ own))
+          kept (Refusal reply) is other o differ at = refl
+          kept (Fault device held) is other o differ at = refl
+
+    module _ (it : Running) (runs : map.get book.docket.running actor ≡ Some it) where
+      -- once a call was made, also where its device failed
+      pub called-falls : (making : Making) (made : Made) (after : Seen)
+          → CallFalls book.bench.places after.places making.call made it.task making.then
+          → Fits book.bench making.call → IsMade book.bench after making.call (Ok made)
+          → turns_left (after_call book actor it.number making made after) < turns_left book
+      called-falls making made after shows fits is_made =
+          let l = made-len book.bench after making.call made fits is_made in
+          let s = sum-changed actor_total actor_exact (turns_of book.bench.places) (turns_of after.places)
+          book.docket.running actor (record { number = it.number; task = making.then })
+          (λ other o differ at. other-turns after.places other o at (λ down boot. differ (boot ∙ sym (alone down)))) in
+          let w = ap (worth (turns_of book.bench.places)) runs in
+          let turns = shows.turns in
+          omega (arith, l, s, w, turns)
+        where
+          alone : book.tracker.phase ≡ Down → actor ≡ Boot
+          alone down = (subst (λ phase. PhaseStands phase book (machine_of book)) down whole.phase).1 actor it runs
+
+      -- and once a reply was given
+      pub replied-falls : (command : Command) (reply : Reply) → 0 < turns_of_task book.bench.places it.task
+          → turns_left (replied_plain book actor it command reply) < turns_left book
+      replied-falls command reply lasts =
+          let s = sum-remove actor_total (turns_of book.bench.places) actor_exact book.docket.running actor in
+          let w = ap (worth (turns_of book.bench.places)) runs in
+          omega (arith, s, w, lasts)

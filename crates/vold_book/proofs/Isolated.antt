@@ -1,110 +1,163 @@
--- A user's turn leaves what stands at the places of other users.
-use Rattle.std.proofs.Common.{◌≡◌, ◌≢◌, ℕ, Bool, true, false, List, refl, sym, ap, ◌∙◌, subst}
+-- A user's turn leaves what stands at the places of other users, and the entries of their keys.
+use Rattle.std.proofs.Common.{◌≡◌, ◌≢◌, ℕ, ◌==◌, false, cond, List, [], ◌∷◌, ◌++◌, refl, sym, ap, ◌∙◌, subst}
 use Rattle.std.specs.Prelude.{Option, Ok}
+use Rattle.std.proofs.lemmas.Bool.{ne_eqb}
 use Rattle.tree_model.specs.declared.sites.LocalOp.{LocalOp}
 use Rattle.tree_model.specs.declared.sites.LocalOp.TheVariants.{MakeDir, Write, RenameFile}
 use Rattle.tree_model.specs.declared.sites.LocalOp.TheVariants.{RenameDir, RemoveFile, RemoveDir}
 use Rattle.tree_model.specs.Tree.{Tree}
-use Rattle.tree_model.specs.Disk.{Disk, view, with_op}
+use Rattle.tree_model.specs.Disk.{view, with_op}
 use Rattle.tree_model.specs.Sites.{op_of}
 use Rattle.tree_model.specs.Touch.{SameFor}
 use Rattle.tree_model.proofs.Images.{applied-append}
 use Rattle.tree_model.proofs.Parts.{of_user}
 use Rattle.tree_model.proofs.Touch.{same-other}
+use Rattle.keystore_model.specs.declared.entry.StoreEntry.{StoreEntry}
 use Rattle.journal_model.specs.declared.commands.Actor.{Actor}
 use Rattle.journal_model.specs.declared.commands.Actor.TheVariants.{User}
 use Rattle.journal_model.specs.Command.{actor_of}
 use Rattle.user_world.specs.declared.changes.LocalChange.{LocalChange}
-use Rattle.user_world.specs.declared.turns.Call.{Call}
-use Rattle.user_world.specs.declared.turns.Call.TheVariants.{Op as OpCall, Sync, List as ListCall}
-use Rattle.user_world.specs.Facts.{Fact}
-use Rattle.user_world.specs.Meaning.{Meaning}
-use Rattle.user_world.specs.OwnWorlds.{OwnWorld}
-use Rattle.user_world.specs.Turns.{CallStands}
-use Rattle.user_world.specs.declared.turns.Next.TheVariants.{Call as CallNext}
+use Rattle.task_turns.specs.declared.calls.Answer.{Answer}
+use Rattle.task_turns.specs.declared.calls.Call.{Call}
+use Rattle.task_turns.specs.declared.calls.Call.TheVariants.{Op as OpCall, Sync, List as ListCall, Read}
+use Rattle.task_turns.specs.declared.calls.Call.TheVariants.{Generate, Encrypt, Entries}
+use Rattle.task_turns.specs.declared.next.Next.TheVariants.{Call as CallNext}
+use Rattle.task_turns.specs.Turns.{CallStands}
+use Rattle.bench.specs.declared.made.Made.{Made}
+use Rattle.bench.specs.declared.made.Made.TheVariants.{Heard, Failed}
+use Rattle.bench.specs.Bench.{Plain as Seen, Does, IsFailed, IsFailedOp, IsMade}
+use Rattle.user_tasks.specs.Tasks.{tasks, user_of, rest_of}
 use Rattle.vold_book.specs.declared.tasks.Running.{Running}
 use Rattle.vold_book.specs.declared.tasks.Task.{Task}
 use Rattle.vold_book.specs.declared.tasks.Task.TheVariants.{User as Using, Recovery as Recovers, Refusal, Fault}
-use Rattle.vold_book.specs.Calls.{IsFailedOp, IsMade}
-use Rattle.vold_book.specs.Places.{PlaceMap}
-use Rattle.vold_book.specs.State.{Plain, Device, ground_of}
-use Rattle.vold_book.specs.Tasks.{TaskStands, TaskShows, Plans}
+use Rattle.vold_book.specs.State.{Plain, ground_of}
+use Rattle.vold_book.specs.Tasks.{TaskStands, TaskShows, Plans, scene_of}
+use Rattle.vold_book.specs.Turns.{entries_of}
 use Rattle.vold_book.proofs.UserTurns.{not_boot, same_user}
+use Rattle.vold_book.proofs.Worked.{stands-now}
 
-pub same-tree : (user : ℕ) (before after : Tree) → after ≡ before → SameFor user before after
+-- what stands at a user's places, and the entries of the user's keys, are as they were
+pub record SpareFor (user : ℕ) (before after : Seen) : Type 0 where
+  pub places : SameFor user (view before.disk) (view after.disk)
+  pub entries : entries_of user after.store.entries ≡ entries_of user before.store.entries
+
+same-tree : (user : ℕ) (before after : Tree) → after ≡ before → SameFor user before after
 same-tree user before after same = subst (SameFor user before) (sym same) (record { same = λ place of. refl })
 
-module _ (disk disk' : Disk) (user other : ℕ) (differ : other ≢ user) where
-  isolated-op : (op : LocalOp) → disk' ≡ with_op disk (op_of user op) → SameFor other (view disk) (view disk')
-  isolated-op op is =
-      subst (SameFor other (view disk)) (sym (ap view is ∙ applied-append disk.stable disk.pending (op_of user op)))
-      (same-other user other (view disk) (op_of user op) (of_user user op) differ)
+pub spare-same : (user : ℕ) (before after : Seen) → after.disk ≡ before.disk → after.store ≡ before.store
+    → SpareFor user before after
+spare-same user before after disk store = record {
+  places = same-tree user _ _ (ap view disk);
+  entries = ap (λ s. entries_of user s.entries) store;
+}
 
-  isolated-failed : (op : LocalOp) → IsFailedOp disk disk' user op → SameFor other (view disk) (view disk')
-  isolated-failed (MakeDir site) failed = same-tree other _ _ (ap view failed)
-  isolated-failed (Write site file bytes) failed = isolated-op (Write site file failed.0) failed.1
-  isolated-failed (RenameFile site from to) failed = same-tree other _ _ (ap view failed)
-  isolated-failed (RenameDir from to) failed = same-tree other _ _ (ap view failed)
-  isolated-failed (RemoveFile site file) failed = same-tree other _ _ (ap view failed)
-  isolated-failed (RemoveDir site) failed = same-tree other _ _ (ap view failed)
+-- an entry of another user's key is none of the user's
+entries-push : (user : ℕ) (entries : List StoreEntry) (entry : StoreEntry) → (entry.tag.user == user) ≡ false
+    → entries_of user (entries ++ entry ∷ []) ≡ entries_of user entries
+entries-push user [] entry other = ap (λ t. cond t (entry ∷ []) []) other
+entries-push user (first ∷ entries) entry other =
+    ap (λ rest. cond (first.tag.user == user) (first ∷ rest) rest) (entries-push user entries entry other)
 
-  isolated-call : (op : LocalOp) (made : Bool) (places places' : PlaceMap)
-      → IsMade disk disk' places places' (OpCall user op) (Ok made)
-      → SameFor other (view disk) (view disk')
-  isolated-call op true places places' is = isolated-op op is.0
-  isolated-call op false places places' is = isolated-failed op is.0
+other-user : (owner user : ℕ) → user ≢ owner → (owner == user) ≡ false
+other-user owner user differ = ne_eqb owner user (λ e. differ (sym e))
 
-still-call : (disk disk' : Disk) (other : ℕ) (call : Call) → (made : Bool) (places places' : PlaceMap)
-    → IsMade disk disk' places places' call (Ok made) → ((owner : ℕ) (op : LocalOp) → call ≡ OpCall owner op → ⊥)
-    → SameFor other (view disk) (view disk')
-still-call disk disk' other (OpCall owner op) made places places' is never = absurd (never owner op refl)
-still-call disk disk' other Sync true places places' is never = same-tree other _ _ (ap view is.0)
-still-call disk disk' other Sync false places places' is never = same-tree other _ _ (ap view is.0)
-still-call disk disk' other ListCall true places places' is never = same-tree other _ _ (ap view is.0)
-still-call disk disk' other ListCall false places places' is never = same-tree other _ _ (ap view is.0)
+module _ (before after : Seen) (owner other : ℕ) (differ : other ≢ owner) where
+  spare-op : (op : LocalOp) → after.disk ≡ with_op before.disk (op_of owner op) → after.store ≡ before.store
+      → SpareFor other before after
+  spare-op op disk store = record {
+    places = subst (SameFor other (view before.disk))
+        (sym (ap view disk ∙ applied-append before.disk.stable before.disk.pending (op_of owner op)))
+        (same-other owner other (view before.disk) (op_of owner op) (of_user owner op) differ);
+    entries = ap (λ s. entries_of other s.entries) store;
+  }
 
--- an operation of a user's task is on the user's places
-owned : (meaning : Meaning) (user : ℕ) (own : OwnWorld) (change : Option LocalChange) (next : List Fact) (call : Call)
-    → CallStands meaning user own call change next → (at : ℕ) (op : LocalOp) → call ≡ OpCall at op → at ≡ user
-owned meaning user own change next (OpCall o p) stands at op e = same o p e ∙ stands.0
-  where
-    same : (o : ℕ) (p : LocalOp) → OpCall o p ≡ OpCall at op → at ≡ o
-    same o p e = cc
-owned meaning user own change next Sync stands at op e = cc
-owned meaning user own change next ListCall stands at op e = cc
+  spare-failed : (op : LocalOp) → IsFailedOp before after owner op → SpareFor other before after
+  spare-failed (Write site file bytes) failed =
+      spare-op (Write site file failed.0) (ap (λ b. b.disk) failed.1) (ap (λ b. b.store) failed.1)
+  spare-failed (MakeDir site) failed =
+      spare-same other before after (ap (λ b. b.disk) failed) (ap (λ b. b.store) failed)
+  spare-failed (RenameFile site from to) failed =
+      spare-same other before after (ap (λ b. b.disk) failed) (ap (λ b. b.store) failed)
+  spare-failed (RenameDir from to) failed =
+      spare-same other before after (ap (λ b. b.disk) failed) (ap (λ b. b.store) failed)
+  spare-failed (RemoveFile site file) failed =
+      spare-same other before after (ap (λ b. b.disk) failed) (ap (λ b. b.store) failed)
+  spare-failed (RemoveDir site) failed =
+      spare-same other before after (ap (λ b. b.disk) failed) (ap (λ b. b.store) failed)
 
-module _ (book : Plain) (actor : Actor) (owner other : ℕ) (own : actor ≡ User owner) (differ : other ≢ owner) where
-  pub call-isolates : (it : Running) (call : Call) (change : Option LocalChange) (then : Task)
-      (tree : Device) (places : PlaceMap) (made : Bool) → Plans book actor it (CallNext call change then)
-      → IsMade book.tree.disk tree.disk book.places places call (Ok made)
-      → SameFor other (view book.tree.disk) (view tree.disk)
-  call-isolates it call change then tree places made plans is =
-      by it.task then plans.on.stands plans.shows
+  -- a call is on its own user's places and keys
+  abbrev IsOwn : Call → Type 0
+  IsOwn (OpCall at op names) = at ≡ owner
+  IsOwn (Generate tag app_id) = tag.user ≡ owner
+  IsOwn call = Unit {0}
+
+  spare-done : (call : Call) (answer : Answer) → IsOwn call → Does before after call answer
+      → SpareFor other before after
+  spare-done (OpCall at op names) answer own does =
+      spare-op op (ap (λ b. b.disk) does.1 ∙ ap (λ u. with_op before.disk (op_of u op)) own)
+      (ap (λ b. b.store) does.1)
+  spare-done Sync answer own does = record {
+    places = same-tree other _ _ (ap (λ b. view b.disk) does.1);
+    entries = ap (λ b. entries_of other b.store.entries) does.1;
+  }
+  spare-done ListCall answer own does =
+      spare-same other before after (ap (λ b. b.disk) does.2) (ap (λ b. b.store) does.2)
+  spare-done (Read place) answer own does =
+      spare-same other before after (ap (λ b. b.disk) does.1) (ap (λ b. b.store) does.1)
+  spare-done (Generate tag app_id) answer own does = record {
+    places = same-tree other _ _ (ap (λ b. view b.disk) does.3);
+    entries = ap (λ s. entries_of other s.entries) does.2.made
+        ∙ entries-push other before.store.entries _
+        (ap (λ u. u == other) own ∙ other-user owner other differ);
+  }
+  spare-done (Encrypt blob app_id nonce key) answer own does =
+      spare-same other before after (ap (λ b. b.disk) does.1) (ap (λ b. b.store) does.1)
+  spare-done Entries answer own does =
+      spare-same other before after (ap (λ b. b.disk) does.1.2) (ap (λ b. b.store) does.1.2)
+
+  spare-undone : (call : Call) → IsOwn call → IsFailed before after call → SpareFor other before after
+  spare-undone (OpCall at op names) own failed =
+      spare-failed op (subst (λ u. IsFailedOp before after u op) own failed)
+  spare-undone Sync own failed = spare-same other before after (ap (λ b. b.disk) failed) (ap (λ b. b.store) failed)
+  spare-undone ListCall own failed = spare-same other before after (ap (λ b. b.disk) failed) (ap (λ b. b.store) failed)
+  spare-undone (Read place) own failed =
+      spare-same other before after (ap (λ b. b.disk) failed) (ap (λ b. b.store) failed)
+  spare-undone (Generate tag app_id) own failed =
+      spare-same other before after (ap (λ b. b.disk) failed) (ap (λ b. b.store) failed)
+  spare-undone (Encrypt blob app_id nonce key) own failed =
+      spare-same other before after (ap (λ b. b.disk) failed) (ap (λ b. b.store) failed)
+  spare-undone Entries own failed = spare-same other before after (ap (λ b. b.disk) failed) (ap (λ b. b.store) failed)
+
+  spare-made : (call : Call) (made : Made) → IsOwn call → IsMade before after call (Ok made)
+      → SpareFor other before after
+  spare-made call (Heard answer) own is = spare-done call answer own is
+  spare-made call (Failed device) own is = spare-undone call own is.1
+
+module _ (book : Plain) (actor : Actor) (owner other : ℕ) (mine : actor ≡ User owner) (differ : other ≢ owner) where
+  pub call-isolates : (it : Running) (now : Task) (call : Call) (change : Option LocalChange) (made : Made)
+      (bench : Seen) → Plans book actor it now (CallNext call change) → IsMade book.bench bench call (Ok made)
+      → SpareFor other book.bench bench
+  call-isolates it now call change made bench plans is =
+      by now (stands-now book actor it now (CallNext call change) plans) plans.shows
     where
-      mine : (user : ℕ) → actor_of plans.on.began.command ≡ User user → user ≡ owner
-      mine user of = same_user user owner (sym of ∙ plans.on.own ∙ own)
+      by : (task : Task) → TaskStands (ground_of book) task plans.on.began
+          → TaskShows (ground_of book) plans.on.began task (CallNext call change) → SpareFor other book.bench bench
+      by (Using task) stands shows = spare-made book.bench bench owner other differ call made
+          (own call shows.stands) is
+        where
+          of-owner : (rest_of task).user ≡ owner
+          of-owner = same_user _ owner (sym stands.of_user ∙ plans.on.own ∙ mine)
 
-      using : (user : ℕ) → user ≡ owner → (call : Call)
-          → IsMade book.tree.disk tree.disk book.places places call (Ok made)
-          → ((at : ℕ) (op : LocalOp) → call ≡ OpCall at op → at ≡ user)
-          → SameFor other (view book.tree.disk) (view tree.disk)
-      using user same (OpCall at op) is of =
-          isolated-call book.tree.disk tree.disk at other
-          (λ e. differ (e ∙ of at op refl ∙ same)) op made book.places places is
-      using user same Sync is of =
-          still-call book.tree.disk tree.disk other Sync made book.places places is (λ o p e. cc)
-      using user same ListCall is of =
-          still-call book.tree.disk tree.disk other ListCall made book.places places is (λ o p e. cc)
-
-      by : (task then : Task) → TaskStands (ground_of book) task plans.on.began
-          → TaskShows (ground_of book) plans.on.began task (CallNext call change then)
-          → SameFor other (view book.tree.disk) (view tree.disk)
-      by (Using task) (Using then) stands shows = using _ (mine _ stands.of_user) call is
-          (owned _ _ _ change _ call shows.stands)
-      by (Recovers recovery) then stands shows =
-          absurd (not_boot owner (sym (ap actor_of stands.0.command) ∙ plans.on.own ∙ own))
-      by (Using task) (Recovers then) stands shows = absurd shows
-      by (Using task) (Refusal then) stands shows = absurd shows
-      by (Using task) Fault stands shows = absurd shows
-      by (Refusal reply) then stands shows = absurd shows
-      by Fault then stands shows = absurd shows
+          own : (c : Call) → CallStands tasks task (scene_of (user_of task) (ground_of book) plans.on.began) c change
+              → IsOwn book.bench bench owner other differ c
+          own (OpCall at op names) stands = stands.mine ∙ of-owner
+          own (Generate tag app_id) stands = stands.tagged ∙ of-owner
+          own Sync stands = tt
+          own ListCall stands = tt
+          own (Read place) stands = tt
+          own (Encrypt blob app_id nonce key) stands = tt
+          own Entries stands = tt
+      by (Recovers recovery) stands shows =
+          absurd (not_boot owner (sym (ap actor_of stands.0.command) ∙ plans.on.own ∙ mine))
+      by (Refusal reply) stands shows = cc
+      by (Fault device held) stands shows = cc

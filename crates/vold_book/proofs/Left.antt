@@ -1,24 +1,22 @@
--- A search through the places in order, and the places that the device lists.
+-- A search through the places in order.
 use Rattle.std.proofs.Common.{◌≡◌, ◌<◌, ◌≤◌, zero, suc, ℕ, ◌+◌, Bool, true, false, cond, List, [], ◌∷◌, ◌++◌}
 use Rattle.std.proofs.Common.{length, get_or, take, refl, sym, ap, ◌∙◌, subst, arith}
-use Rattle.std.specs.Prelude.{Some, IsSome, IsTrue, ◌↔◌}
-use Rattle.std.specs.List.{zip, list_any}
+use Rattle.std.specs.Prelude.{Option, Some, IsSome, IsTrue, ◌↔◌}
 use Rattle.std.specs.declared.cmp.Ordering.TheVariants.{Less, Equal, Greater}
 use Rattle.std.specs.Ordering.{eq_by_cmp, ordering_reverse}
 use Rattle.std.specs.Cmp.{alike_right}
 use Rattle.std.specs.FinMap as map
-use Rattle.std.specs.FinMap.{contains_key-keys, entries_sorted}
+use Rattle.std.specs.FinMap.{entries_sorted}
 use Rattle.std.specs.FinMap.Entries.{find, is_sorted, below_all}
-use Rattle.std.proofs.lemmas.Bool.{and_parts, and_from}
-use Rattle.std.proofs.lemmas.Float.{T_from_true}
-use Rattle.std.proofs.lemmas.List.{take_more, take_all, length-map}
-use Rattle.sorted_map.specs.Rows.{IsSorted, IsAligned, keys}
+use Rattle.std.proofs.lemmas.Bool.{and_parts}
+use Rattle.std.proofs.lemmas.List.{take_more, take_all}
+use Rattle.sorted_map.specs.Rows.{keys}
 use Rattle.tree_model.proofs.Logic.{true_from_T, is_less, is_equal}
 use Rattle.tree_model.proofs.Maps.{tied}
 use Rattle.tree_model.specs.declared.places.Place.{Place}
 use Rattle.tree_model.specs.Order.{place_cmp, place_total, place_exact}
-use Rattle.tree_model.specs.Tree.{Tree}
-use Rattle.vold_book.specs.Places.{PlaceMap, KnowsPlaces, NoneLeft, NoneBelow}
+use Rattle.step_core.specs.Table.{NamedPlaces}
+use Rattle.vold_book.specs.Sweeping.{NoneLeft, NoneBelow}
 
 pub denied : (b : Bool) (P : Type 0) → (IsTrue b ↔ P) → b ≡ false → ¬ P
 denied b P iff off p = let on : b ≡ true = iff.1 p in differ (sym on ∙ off)
@@ -110,8 +108,8 @@ module _ {V : Type 0} where
             (omega (arith, within)) none.1 other h less kind
       ] refl there
 
-module _ (places : PlaceMap) (items : List Place) (is : items ≡ map.keys places) (i : ℕ) where
-  abbrev entries : List (Place × Unit {0})
+module _ (places : NamedPlaces) (items : List Place) (is : items ≡ map.keys places) (i : ℕ) where
+  abbrev entries : List (Place × Option (List ℕ))
   entries = map.entries places
 
   -- the search ended: none of the known places is such a one
@@ -135,46 +133,3 @@ module _ (places : PlaceMap) (items : List Place) (is : items ≡ map.keys place
         (subst (λ ks. i < length ks) is within)
         (subst (λ ks. NoneIn Kind (take i ks)) is none) other (subst IsSome (map.get-entries places other) there)
         (subst (λ ks. place_cmp other (get_or ks i default) ≡ Less) is less)
-
--- the order of rows is that of their keys
-below-zip : {V : Type 0} (key : Place) (rows : List (Place × V)) (units : List (Unit {0}))
-    → below_all place_cmp key rows ≡ true
-    → below_all place_cmp key (zip (keys rows) units) ≡ true
-below-zip key [] units below = refl
-below-zip key (row ∷ rows) [] below = refl
-below-zip key (row ∷ rows) (u ∷ units) below =
-    and_from _ _ (and_parts _ _ below).0 (below-zip key rows units (and_parts _ _ below).1)
-
-sorted-zip : {V : Type 0} (rows : List (Place × V)) (units : List (Unit {0})) → is_sorted place_cmp rows ≡ true
-    → is_sorted place_cmp (zip (keys rows) units) ≡ true
-sorted-zip [] units sorted = refl
-sorted-zip (row ∷ rows) [] sorted = refl
-sorted-zip (row ∷ rows) (u ∷ units) sorted =
-    and_from _ _ (below-zip row.0 rows units (and_parts _ _ sorted).0) (sorted-zip rows units (and_parts _ _ sorted).1)
-
-keys-zip : {V : Type 0} (ks : List Place) (units : List V) → length units ≡ length ks → keys (zip ks units) ≡ ks
-keys-zip [] units same = refl
-keys-zip (k ∷ ks) [] same = absurd (omega (arith, same))
-keys-zip (k ∷ ks) (u ∷ units) same = ap (λ rest. k ∷ rest) (keys-zip ks units (omega (arith, same)))
-
--- the places that the device lists, as the keys of a map of units
-module _ (tree : Tree) (ks : List Place) (units : List (Unit {0})) (is : ks ≡ map.keys tree)
-    (count : length units ≡ map.len tree) where
-  pub listed-aligned : IsAligned place_cmp ks units
-  listed-aligned = record {
-    lengths = count ∙ map.len-entries tree ∙ sym (length-map (map.entries tree) _) ∙ sym (ap length is);
-    sorted =
-        subst (λ k. IsSorted place_cmp (zip k units)) (sym is)
-        (sorted-zip (map.entries tree) units (true_from_T _ (entries_sorted tree)));
-  }
-
-  abbrev listed : PlaceMap
-  listed = map.from_sorted (zip ks units)
-
-  pub listed-known : KnowsPlaces listed tree
-  listed-known place =
-      contains_key-keys listed place
-      ∙ ap (λ es. list_any (eq_by_cmp place_cmp place) (keys es))
-      (map.entries-from_sorted place_cmp (zip ks units) (T_from_true _ listed-aligned.sorted))
-      ∙ ap (list_any (eq_by_cmp place_cmp place)) (keys-zip ks units listed-aligned.lengths ∙ is)
-      ∙ sym (contains_key-keys tree place)

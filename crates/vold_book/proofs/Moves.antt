@@ -17,47 +17,67 @@ use Rattle.journal_model.specs.Command.{actor_of}
 use Rattle.journal_model.specs.Machine.{Machine, Running as BeganCommand, IsLegal}
 use Rattle.journal_model.specs.Machine.{IsDurable, machine_after, numbers_begun}
 use Rattle.journal_model.proofs.Steps.{machine_after-append, legal-append}
-use Rattle.user_world.specs.declared.changes.LocalChange.{LocalChange}
-use Rattle.user_world.specs.declared.turns.Call.{Call}
+use Rattle.journal_model.specs.declared.entries.Device.{Device}
+use Rattle.journal_model.specs.Made.{boot_seed_of}
+use Rattle.keystore_model.specs.Store.{IsStore}
+use Rattle.blob_custody.specs.Custody.{IsClean}
 use Rattle.user_world.specs.Timelines.{OwnWorldsStand}
 use Rattle.user_world.proofs.Timelines.{line-images}
-use Rattle.key_directory.specs.Rehearsal.{rehearsal}
+use Rattle.key_directory.specs.Vaults.{sealed, KeepsEntry}
+use Rattle.tree_model.specs.declared.blobs.Blob.{Blob}
+use Rattle.bench.specs.declared.made.Made.{Made}
+use Rattle.bench.specs.Bench.{Plain as Seen, was_done}
+use Rattle.bench.specs.Known.{Knows}
 use Rattle.vold_book.specs.declared.tasks.Running.{Running}
 use Rattle.vold_book.specs.declared.tasks.Task.{Task}
-use Rattle.vold_book.specs.Calls.{entry_of, machine_with, may_with}
+use Rattle.vold_book.specs.Entries.{entry_of, machine_with, may_with, made_entry}
 use Rattle.vold_book.specs.Parts.{TrackerState, Agrees, with_entry, noted}
-use Rattle.vold_book.specs.Places.{PlaceMap, KnowsPlaces}
-use Rattle.vold_book.specs.Recovery.{Ground}
-use Rattle.vold_book.specs.State.{Plain, Device, machine_of, timeline, ground_at, ground_of}
-use Rattle.vold_book.specs.Tasks.{TaskStands, RunsOn}
-use Rattle.vold_book.specs.Turns.{Called, task_after, made_entry}
-use Rattle.vold_book.specs.Whole.{WasGiven, Numbers, PhaseStands, IsCharged, AllRun, Whole}
+use Rattle.vold_book.specs.State.{Plain, Ground, machine_of, timeline, ground_at, ground_of, vault_of}
+use Rattle.vold_book.specs.Tasks.{TaskStands, RunsOn, HoldsOwn, held_in}
+use Rattle.vold_book.specs.Turns.{Making}
+use Rattle.vold_book.specs.Whole.{WasGiven, Numbers, PhaseStands, IsCharged, AllRun, IsSmall, custody_of, Whole}
 use Rattle.vold_book.proofs.Numbers.{IsQuiet, numbers-quiet, numbers-running}
 
 -- what stands of a Book on a machine
 pub record Core (book : Plain) (machine : Machine) : Type 0 where
-  pub agrees : Agrees book.tracker machine book.tree.disk
-  pub worlds : OwnWorldsStand (rehearsal book.seed) (timeline book.tree.disk machine)
+  pub agrees : Agrees book.tracker machine book.bench.disk
+  pub worlds : OwnWorldsStand (sealed (vault_of book.seed book.bench.store)) (timeline book.bench.disk machine)
   pub numbers : Numbers book.docket book.ledger.entries machine
   pub run : (actor : Actor) (it : Running) → map.get book.docket.running actor ≡ Some it
-      → RunsOn (ground_at book.seed book.tree.disk machine book.places) machine actor it
+      → RunsOn (ground_at book.seed book.bench machine) machine actor it
   pub all : AllRun machine book.docket.running
   pub phase : PhaseStands book.tracker.phase book machine
 
+-- what stands of it whatever the machine is
+pub record Steady (book : Plain) : Type 0 where
+  pub short : length book.seed ≤ 64
+  pub seeded : book.boot_seed ≡ boot_seed_of book.seed book.tracker.boot
+  pub store : IsStore book.bench.store
+  pub level : book.bench.store.level ≡ book.tracker.level
+  pub clean : IsClean (custody_of book)
+  pub small : IsSmall book
+  pub charged : (device : Device) → IsCharged book device
+
 pub whole-of : (book : Plain) (machine : Machine) → machine_of book ≡ machine → IsLegal book.ledger.entries
-    → length book.seed ≤ 64 → IsCharged book → Core book machine → Whole book
-whole-of book machine is legal short charged core =
+    → Steady book → Core book machine → Whole book
+whole-of book machine is legal steady core =
     let here : Core book (machine_of book) = subst (Core book) (sym is) core in record {
       legal = legal;
       agrees = here.agrees;
-      short = short;
-      images = line-images (rehearsal book.seed) (timeline book.tree.disk (machine_of book)) here.worlds;
+      short = steady.short;
+      seeded = steady.seeded;
+      store = steady.store;
+      level = steady.level;
+      images = line-images (sealed (vault_of book.seed book.bench.store))
+          (timeline book.bench.disk (machine_of book)) here.worlds;
       worlds = here.worlds;
       numbers = here.numbers;
       run = here.run;
       all = here.all;
       phase = here.phase;
-      charged = charged;
+      clean = steady.clean;
+      small = steady.small;
+      charged = steady.charged;
     }
 
 module _ (entries : List Entry) where
@@ -87,11 +107,11 @@ runs_apart machine actor other it o g h mine theirs differ same =
     same_Some theirs.began mine.began (sym theirs.at ∙ ap (map.get machine.running) same ∙ mine.at) in
     differ (sym theirs.own ∙ ap (λ b. actor_of b.command) one ∙ mine.own)
 
--- what a call leaves: the device, the tracker, the known places, and what the actor runs, with the call's entry
+-- what a call leaves: the devices with what is known of them, the tracker, and what the actor runs, with the call's
+-- entry
 pub record After : Type 0 where
-  pub tree : Device
+  pub bench : Seen
   pub tracker : TrackerState
-  pub places : PlaceMap
   pub task : Task
   pub entry : Option Entry
 
@@ -100,14 +120,15 @@ abbrev pub machine_then : Plain → After → Machine
 machine_then book after = machine_with book.ledger.entries (machine_of book) after.entry
 
 abbrev pub ground_then : Plain → After → Ground
-ground_then book after = ground_at book.seed after.tree.disk (machine_then book after) after.places
+ground_then book after = ground_at book.seed after.bench (machine_then book after)
 
 -- what it has to leave, so that the Book is whole
 pub record Moves (book : Plain) (actor : Actor) (number : ℕ) (after : After) : Type 0 where
   pub may : may_with book.ledger.entries (machine_of book) after.entry
   pub quiet : IfSome after.entry IsQuiet
-  pub agrees : Agrees after.tracker (machine_then book after) after.tree.disk
-  pub worlds : OwnWorldsStand (rehearsal book.seed) (timeline after.tree.disk (machine_then book after))
+  pub agrees : Agrees after.tracker (machine_then book after) after.bench.disk
+  pub worlds : OwnWorldsStand (sealed (vault_of book.seed after.bench.store))
+      (timeline after.bench.disk (machine_then book after))
   pub boot : (machine_then book after).boot ≡ (machine_of book).boot
   -- the actor's own command, and the others
   pub mine : RunsOn (ground_then book after) (machine_then book after) actor
@@ -119,31 +140,50 @@ pub record Moves (book : Plain) (actor : Actor) (number : ℕ) (after : After) :
   pub others : (other : Actor) (o : Running) → other ≢ actor → map.get book.docket.running other ≡ Some o
       → (began : BeganCommand) → actor_of began.command ≡ other → TaskStands (ground_of book) o.task began
       → TaskStands (ground_then book after) o.task began
+  -- no entry is lost
+  pub kept : (blob : Blob) → KeepsEntry (ground_of book).vault (ground_then book after).vault blob
   -- the phase, and what stands by it
   pub phase : after.tracker.phase ≡ book.tracker.phase
-  pub up : book.tracker.phase ≡ Up → KnowsPlaces after.places (view after.tree.disk)
+  pub up : book.tracker.phase ≡ Up → Knows after.bench.places (view after.bench.disk)
   pub durable : book.tracker.phase ≡ Down → IsDurable (machine_of book) None → IsDurable (machine_then book after) None
 
--- what a call of a task leaves, by what it left of the device and the known places
-abbrev pub after_of : Plain → ℕ → Call → Option LocalChange → Task → Called Device → After
-after_of book number call change then called = record {
-  tree = called.tree;
-  tracker = noted called.made call (is_some change) book.tracker;
-  places = called.places;
-  task = task_after called.made then;
-  entry = made_entry called.made (entry_of number call change);
+-- what a call of a task leaves, by how it went and what it left of the devices
+abbrev pub after_of : Plain → ℕ → Making → Made → Seen → After
+after_of book number making made bench = record {
+  bench = bench;
+  tracker = noted (was_done made) making.call (is_some making.change) book.tracker;
+  task = making.then;
+  entry = made_entry made (entry_of number making.call making.change);
 }
 
 -- the Book then
 abbrev pub moved : Plain → Actor → ℕ → List Actor → After → Plain
 moved book actor number callers after = record book {
-  tree = after.tree;
+  bench = after.bench;
   ledger = record book.ledger { entries = with_entry book.ledger.entries after.entry; callers = callers };
   docket = record book.docket {
     running = map.insert book.docket.running actor (record { number = number; task = after.task });
   };
   tracker = after.tracker;
-  places = after.places;
+}
+
+-- what a command holds it goes on holding where no entry is lost
+pub holds-on : (before after : Ground) (actor : Actor) (held : List Blob)
+    → ((blob : Blob) → KeepsEntry before.vault after.vault blob)
+    → HoldsOwn before actor held → HoldsOwn after actor held
+holds-on before after actor held kept holds = record {
+  differ = holds.differ;
+  own = λ blob is.
+      let own = holds.own blob is in (
+        own.0,
+        own.1,
+        λ b in_one.
+            let owned = own.2 b in_one in record {
+              entry = owned.entry;
+              live = kept b owned.entry owned.live;
+              tagged = owned.tagged;
+            },
+      );
 }
 
 module _ (book : Plain) (actor : Actor) (it : Running) (callers : List Actor) (after : After)
@@ -206,6 +246,7 @@ module _ (book : Plain) (actor : Actor) (it : Running) (callers : List Actor) (a
         at = moves.on_machine o.number apart ∙ run.at;
         own = run.own;
         stands = moves.others other o differ was run.began run.own run.stands;
+        holds = holds-on (ground_of book) (ground_then book after) other (held_in o.task) moves.kept run.holds;
       }
 
   all-then : (n : ℕ) (began : BeganCommand) → map.get then.running n ≡ Some began
@@ -242,12 +283,12 @@ module _ (book : Plain) (actor : Actor) (it : Running) (callers : List Actor) (a
   stands-then Halted is stands =
       absurd (none-some it (sym (map.get-empty actor_cmp actor) ∙ ap (λ m. map.get m actor) (sym stands.2) ∙ runs))
 
-  -- so the Book is whole, where the charges are
-  pub whole-moved : IsCharged (moved book actor it.number callers after)
+  -- so the Book is whole, where what doesn't speak of the machine stands
+  pub whole-moved : Steady (moved book actor it.number callers after)
       → Whole (moved book actor it.number callers after)
-  whole-moved charged =
+  whole-moved steady =
       whole-of (moved book actor it.number callers after) then (machine-with book.ledger.entries after.entry)
-      (legal-with book.ledger.entries after.entry whole.legal moves.may) whole.short charged (record {
+      (legal-with book.ledger.entries after.entry whole.legal moves.may) steady (record {
         agrees = moves.agrees;
         worlds = moves.worlds;
         numbers = numbers-running book.docket (with_entry book.ledger.entries after.entry) then running_then

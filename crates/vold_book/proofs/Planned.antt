@@ -1,139 +1,106 @@
--- What a running command does next is what its task shows.
-use Rattle.std.proofs.Common.{◌≡◌, ℕ, Bool, true, false, List, [], ◌∷◌, refl, sym, ap, ◌∙◌, subst}
-use Rattle.std.specs.Prelude.{Option, Some, None, is_some, not, IsTrue, ◌↔◌}
+-- What a user's command does next, with its job done, shows what it has to.
+use Rattle.std.proofs.Common.{◌≡◌, ◌≢◌, ℕ, refl, sym, ap, ◌∙◌, subst}
+use Rattle.std.proofs.lemmas.Option.{none-some}
+use Rattle.std.specs.Prelude.{Option, Some, None, is_some}
 use Rattle.std.specs.FinMap as map
-use Rattle.tree_model.specs.declared.ops.Op.{Op}
 use Rattle.tree_model.specs.declared.sites.Site.{Site}
-use Rattle.tree_model.specs.Tree.{Tree}
 use Rattle.tree_model.specs.Disk.{view}
 use Rattle.tree_model.specs.Parts.{Part, part_of}
 use Rattle.tree_model.specs.Sites.{place_of}
+use Rattle.tree_model.specs.Tree.{Tree}
 use Rattle.journal_model.specs.declared.commands.Actor.{Actor}
-use Rattle.user_world.specs.declared.turns.Next.{Next}
-use Rattle.user_world.specs.declared.turns.Next.TheVariants.{Call as CallNext, Reply as ReplyNext}
+use Rattle.journal_model.specs.declared.commands.Actor.TheVariants.{Boot}
+use Rattle.journal_model.specs.declared.phase.Phase.{Phase}
+use Rattle.journal_model.specs.declared.phase.Phase.TheVariants.{Up, Down, Halted}
+use Rattle.journal_model.specs.Actor.{actor_cmp}
 use Rattle.user_world.specs.OwnWorlds.{own_view}
-use Rattle.user_world.specs.Timelines.{Timeline, own_of}
-use Rattle.user_world.specs.Turns.{TurnShows}
+use Rattle.user_world.specs.Timelines.{own_of}
 use Rattle.user_world.proofs.Timelines.{view-shown}
+use Rattle.step_core.specs.Table.{NamedPlaces}
+use Rattle.task_turns.specs.Turns.{WorkShows}
+use Rattle.bench.specs.Bench.{KnowsPlaces}
 use Rattle.user_tasks.specs.Clearing.{IsNextToClear}
-use Rattle.user_tasks.specs.Scenes.{scene_of}
-use Rattle.user_tasks.specs.Tasks.{UserTask, user_of, rest_of, UserTurns}
-use Rattle.vold_book.specs.declared.recovery.Recovery.{Recovery}
+use Rattle.user_tasks.specs.Tasks.{UserTask, tasks, user_of}
+use Rattle.vold_book.specs.declared.plans.Plan.{Plan}
+use Rattle.vold_book.specs.declared.plans.Planned.{Planned}
 use Rattle.vold_book.specs.declared.tasks.Running.{Running}
-use Rattle.vold_book.specs.declared.tasks.Task.{Task}
-use Rattle.vold_book.specs.declared.tasks.Task.TheVariants.{User as Using, Recovery as Recovers}
-use Rattle.vold_book.specs.Parts.{changes_made}
-use Rattle.vold_book.specs.Places.{PlaceMap, KnowsPlaces, IsNextSite}
-use Rattle.vold_book.specs.Recovery.{is_nothing, RecoveryShows, RecoveryTurns}
-use Rattle.vold_book.specs.State.{Plain, machine_of, timeline, ground_of}
-use Rattle.vold_book.specs.Steps.{as_user, as_recovery}
-use Rattle.vold_book.specs.Tasks.{TaskShows, RunsOn, Plans}
+use Rattle.vold_book.specs.declared.tasks.Task.TheVariants.{User as Using}
+use Rattle.vold_book.specs.Plans.{next_of, PlansBy, PlansUser}
+use Rattle.vold_book.specs.State.{Plain, machine_of, ground_of}
+use Rattle.vold_book.specs.Steps.{IsPlanned, task_now}
+use Rattle.vold_book.specs.Sweeping.{IsNextSite}
+use Rattle.vold_book.specs.Tasks.{TaskStands, RunsOn, Plans, scene_of}
 use Rattle.vold_book.specs.Whole.{PhaseStands, Whole}
-use Rattle.vold_book.proofs.UserTurns.{user-up}
-
-none_alike : {A B : Type 0} (a : Option A) (b : Option B) → is_some a ≡ is_some b → a ≡ None → b ≡ None
-none_alike a None same none = refl
-none_alike None (Some b) same none = cc
-none_alike (Some a) (Some b) same none = cc
+use Rattle.vold_book.proofs.RecoveryPlans.{none-there}
+use Rattle.vold_book.proofs.UserTurns.{known}
+use Rattle.vold_book.proofs.Worked.{heard-stands}
 
 -- what the known places have in the way is what the user's part of the view has
-next-to-clear : (places : PlaceMap) (tree : Tree) (user : ℕ) (part : Part) → KnowsPlaces places tree
+next-to-clear : (places : NamedPlaces) (tree : Tree) (user : ℕ) (part : Part) → KnowsPlaces places tree
     → part ≡ part_of tree user
     → (site : Option Site) → IsNextSite places user site → IsNextToClear part site
 next-to-clear places tree user part knows is None none = λ site way.
-    ap (λ p. p site) is ∙ none_alike (map.get places (place_of user site)) (map.get tree (place_of user site))
+    ap (λ p. p site) is ∙ none-there (map.get places (place_of user site)) (map.get tree (place_of user site))
     (knows (place_of user site)) (none site way)
 next-to-clear places tree user part knows is (Some site) next =
     (next.0, ap (λ p. is_some (p site)) is ∙ sym (knows (place_of user site)) ∙ next.1)
 
-module _ (book : Plain) (whole : Whole book) (actor : Actor) (number : ℕ) where
-  module _ (task : UserTask)
-      (runs : map.get book.docket.running actor ≡ Some (record { number = number; task = Using task })) where
-    abbrev user : ℕ
-    user = user_of task
+-- where an actor other than the boot's runs something, the machine is up
+pub runs-up : (book : Plain) (actor : Actor) (it : Running) → map.get book.docket.running actor ≡ Some it
+    → (phase : Phase) → PhaseStands phase book (machine_of book) → actor ≢ Boot → phase ≡ Up
+runs-up book actor it runs Up stands other = refl
+runs-up book actor it runs Down stands other = absurd (other (stands.1 actor it runs))
+runs-up book actor it runs Halted stands other =
+    absurd (none-some it (sym (map.get-empty actor_cmp actor) ∙ ap (λ m. map.get m actor) (sym stands.2) ∙ runs))
 
-    on : RunsOn (ground_of book) (machine_of book) actor (record { number = number; task = Using task })
-    on = whole.run actor (record { number = number; task = Using task }) runs
+module _ (book : Plain) (whole : Whole book) (actor : Actor) (number : ℕ) (task : UserTask)
+    (runs : map.get book.docket.running actor ≡ Some (record { number = number; task = Using task })) where
+  on : RunsOn (ground_of book) (machine_of book) actor (record { number = number; task = Using task })
+  on = whole.run actor (record { number = number; task = Using task }) runs
 
-    known : KnowsPlaces book.places (view book.tree.disk)
-    known =
-        subst (λ phase. PhaseStands phase book (machine_of book))
-        (user-up book actor number task whole runs on) whole.phase
+  knows : KnowsPlaces book.bench.places (view book.bench.disk)
+  knows = (known book actor number task whole on
+      (λ phase stands is other. runs-up book actor _ runs phase stands other)).there
 
-    abbrev line : Timeline
-    line = timeline book.tree.disk (machine_of book)
+  -- the first that is in the way is so in the user's own world
+  clear : (user : ℕ) (site : Option Site) → IsNextSite book.bench.places user site
+      → IsNextToClear (own_view (own_of user (ground_of book).line)) site
+  clear user site first = next-to-clear book.bench.places (view book.bench.disk) user _ knows
+      (view-shown user _ (ground_of book).line whole.worlds.shows) site first
 
-    shown : (next : Next UserTask) → TurnShows (rest_of book.seed)
-        (scene_of book.seed (machine_of book).boot on.began (own_of user line)) (rest_of book.seed task) next
-        → TaskShows (ground_of book) on.began (Using task) (as_user next)
-    shown (CallNext call change then) shows = shows
-    shown (ReplyNext reply) shows = shows
+  planned-by : (site : Option Site) (plan : Plan) (found : Option UserTask)
+      → IsNextSite book.bench.places (user_of task) site → PlansBy task site plan found
+      → Plans book actor (record { number = number; task = Using task }) (task_now found (Using task)) (next_of plan)
+  planned-by site plan None first turns = record {
+    runs = runs;
+    on = on;
+    job = None;
+    worked = refl;
+    shows = turns (scene_of (user_of task) (ground_of book) on.began) (whole.worlds.images (user_of task))
+        (clear (user_of task) site first) on.stands;
+  }
+  planned-by site plan (Some now) first plans =
+      let scene = scene_of (user_of task) (ground_of book) on.began in
+      let shows : WorkShows tasks task scene plans.job =
+      plans.asks scene (whole.worlds.images (user_of task)) (clear (user_of task) site first) on.stands in
+      let heard = (heard-stands (ground_of book) actor on.began task plans.job on.stands shows).stands in
+      let rests : TaskStands (ground_of book) (Using now) on.began =
+      subst (λ t. TaskStands (ground_of book) (Using t) on.began) (sym plans.heard) heard in
+      let same : user_of now ≡ user_of task = ap user_of plans.heard ∙ shows.leads.same_user in record {
+        runs = runs;
+        on = on;
+        job = Some plans.job;
+        worked = (ap Using plans.heard, shows);
+        shows = plans.turns (scene_of (user_of now) (ground_of book) on.began) (whole.worlds.images (user_of now))
+            (clear (user_of now) site (subst (λ u. IsNextSite book.bench.places u site) (sym same) first)) rests;
+      }
 
-    planned-own : (site : Option Site) (next : Next UserTask) → IsNextSite book.places user site
-        → UserTurns book.seed task site next
-        → Plans book actor (record { number = number; task = Using task }) (as_user next)
-    planned-own site next clear turns = record {
-      runs = runs;
-      on = on;
-      shows = shown next (turns (machine_of book).boot on.began (own_of user line) (whole.worlds.images user)
-          (next-to-clear book.places (view book.tree.disk) user (own_view (own_of user line)) known
-          (view-shown user _ line whole.worlds.shows) site clear) on.stands);
-    }
-
-  module _ (recovery : Recovery)
-      (runs : map.get book.docket.running actor ≡ Some (record { number = number; task = Recovers recovery })) where
-    recovers : RunsOn (ground_of book) (machine_of book) actor (record { number = number; task = Recovers recovery })
-    recovers = whole.run actor (record { number = number; task = Recovers recovery }) runs
-
-    shown-recovery : (next : Next Recovery) → RecoveryShows (ground_of book) recovery next
-        → TaskShows (ground_of book) recovers.began (Recovers recovery) (as_recovery next)
-    shown-recovery (CallNext call change then) shows = shows
-    shown-recovery (ReplyNext reply) shows = shows
-
-    -- an operation is pending exactly where one is tracked
-    is-dirty : (dirty : Bool) (pending : List Bool) (ops : List Op) → pending ≡ changes_made book.tree.disk.stable ops
-        → (IsTrue dirty ↔ ¬ (pending ≡ [])) → dirty ≡ not (is_nothing ops)
-    is-dirty true pending [] is iff = absurd (iff.0 refl is)
-    is-dirty false pending [] is iff = refl
-    is-dirty true pending (op ∷ ops) is iff = refl
-    is-dirty false pending (op ∷ ops) is iff = absurd (no_true (iff.1 (λ none. some _ _ (sym is ∙ none))))
-      where
-        some : (b : Bool) (bs : List Bool) → (b ∷ bs) ≡ [] → ⊥
-        some b bs e = cc
-
-        no_true : false ≡ true → ⊥
-        no_true e = cc
-
-    planned-recovering : (dirty : Bool) (next : Next Recovery) → (IsTrue dirty ↔ ¬ (book.tracker.pending ≡ []))
-        → RecoveryTurns book.places dirty recovery next
-        → Plans book actor (record { number = number; task = Recovers recovery }) (as_recovery next)
-    planned-recovering dirty next iff turns = record {
-      runs = runs;
-      on = recovers;
-      shows = shown-recovery next (turns (ground_of book) refl
-          (is-dirty dirty book.tracker.pending book.tree.disk.pending whole.agrees.pending iff)
-          whole.worlds recovers.stands.1);
-    }
-
-module _ (book : Plain) (whole : Whole book) (actor : Actor) (it : Running)
-    (runs : map.get book.docket.running actor ≡ Some it) where
-  at_task : (task : Task) (next : Next Task) → it.task ≡ task
-      → (map.get book.docket.running actor ≡ Some (record { number = it.number; task = task })
-      → Plans book actor (record { number = it.number; task = task }) next) → Plans book actor it next
-  at_task task next is plans =
-      subst (λ t. (map.get book.docket.running actor ≡ Some (record { number = it.number; task = t })
-      → Plans book actor (record { number = it.number; task = t }) next)) (sym is) plans runs
-
-  pub planned-user : (task : UserTask) (site : Option Site) (next : Next UserTask) → it.task ≡ Using task
-      → IsNextSite book.places (user_of task) site → UserTurns book.seed task site next
-      → Plans book actor it (as_user next)
-  planned-user task site next is clear turns =
-      at_task (Using task) (as_user next) is
-      (λ at. planned-own book whole actor it.number task at site next clear turns)
-
-  pub planned-recovery : (recovery : Recovery) (dirty : Bool) (next : Next Recovery) → it.task ≡ Recovers recovery
-      → (IsTrue dirty ↔ ¬ (book.tracker.pending ≡ [])) → RecoveryTurns book.places dirty recovery next
-      → Plans book actor it (as_recovery next)
-  planned-recovery recovery dirty next is iff turns =
-      at_task (Recovers recovery) (as_recovery next) is
-      (λ at. planned-recovering book whole actor it.number recovery at dirty next iff turns)
+pub planned-user : (book : Plain) (whole : Whole book) (actor : Actor) (it : Running) (task : UserTask)
+    → map.get book.docket.running actor ≡ Some it → it.task ≡ Using task → (site : Option Site) (planned : Planned)
+    → IsNextSite book.bench.places (user_of task) site → PlansUser task site planned → IsPlanned book actor planned
+planned-user book whole actor it task runs is site planned first plans = record {
+  it = it;
+  plans = subst (λ t. map.get book.docket.running actor ≡ Some (record { number = it.number; task = t })
+      → Plans book actor (record { number = it.number; task = t }) (task_now planned.task t) (next_of planned.plan))
+      (sym is) (λ at. planned-by book whole actor it.number task at site planned.plan planned.task first plans) runs;
+}

@@ -1,118 +1,104 @@
--- A recovery's next turn shows what it has to, and a call of it leaves the Book what it has to be left.
-use Rattle.std.proofs.Common.{◌≡◌, ◌≢◌, ℕ, Bool, true, false, List, [], refl, sym, ap, ◌∙◌, subst, arith}
+-- A call of a recovery leaves the Book what it has to be left, whether the device did it or failed.
+use Rattle.std.proofs.Common.{◌≡◌, ◌≢◌, ℕ, ◌+◌, ◌^◌, ◌<◌, List, [], length, refl, sym, ap, ◌∙◌, subst}
+use Rattle.std.proofs.Common.{false}
 use Rattle.std.proofs.lemmas.Option.{same_Some}
-use Rattle.std.specs.Prelude.{Some, None, is_some, IsSome, IsSomeAnd}
+use Rattle.std.specs.Prelude.{Option, Some, None, IsSomeAnd, Ok}
 use Rattle.std.specs.FinMap as map
-use Rattle.tree_model.specs.declared.places.Place.{Place}
-use Rattle.tree_model.specs.declared.places.Place.TheVariants.{De, Ce, Temp}
-use Rattle.tree_model.specs.declared.sites.Site.{Site}
-use Rattle.tree_model.specs.declared.sites.Site.TheVariants.{Ce as CeSite, Temp as TempSite}
-use Rattle.tree_model.specs.declared.sites.LocalOp.TheVariants.{RemoveDir}
-use Rattle.tree_model.specs.Tree.{user_of, kind_if, Drop as DropKind}
-use Rattle.tree_model.specs.Disk.{Disk, view, with_op, synced}
-use Rattle.tree_model.specs.Counted.{Counts}
-use Rattle.tree_model.specs.Sites.{site_of, op_of}
+use Rattle.tree_model.specs.declared.blobs.Blob.{Blob}
+use Rattle.tree_model.specs.declared.sites.LocalOp.TheVariants.{MakeDir, Write, RenameFile}
+use Rattle.tree_model.specs.declared.sites.LocalOp.TheVariants.{RenameDir, RemoveFile, RemoveDir}
+use Rattle.tree_model.specs.Disk.{view, with_op}
+use Rattle.tree_model.specs.Sites.{op_of}
 use Rattle.journal_model.specs.declared.commands.Actor.{Actor}
 use Rattle.journal_model.specs.declared.commands.Actor.TheVariants.{Boot}
+use Rattle.journal_model.specs.declared.entries.Device.{Device}
 use Rattle.journal_model.specs.declared.phase.Phase.TheVariants.{Up, Down}
-use Rattle.journal_model.specs.Machine.{Machine}
-use Rattle.user_world.specs.declared.turns.Call.{Call}
-use Rattle.user_world.specs.declared.turns.Call.TheVariants.{Op as OpCall, Sync, List as ListCall}
-use Rattle.user_world.specs.declared.turns.Next.{Next}
-use Rattle.user_world.specs.declared.turns.Next.TheVariants.{Call as CallNext}
-use Rattle.user_world.specs.OwnWorlds.{quiet}
-use Rattle.user_world.specs.Timelines.{Timeline, own_of, OwnWorldsStand}
-use Rattle.user_world.specs.Turns.{StepShows}
-use Rattle.user_world.proofs.OwnWorlds.{keeps-absent, keeps-temp, absent-view}
-use Rattle.user_world.proofs.Timelines.{line-quiet, line-settled, view-shown}
-use Rattle.key_directory.specs.Rehearsal.{rehearsal}
-use Rattle.key_directory.proofs.Standing.{absent-record}
+use Rattle.journal_model.specs.Machine.{Machine, Running as BeganCommand}
+use Rattle.keystore_model.proofs.Elements.{Contains-none}
+use Rattle.step_core.specs.declared.jobs.Job.{Job}
+use Rattle.user_world.specs.declared.changes.LocalChange.{LocalChange}
+use Rattle.user_world.specs.Meaning.{Meaning}
+use Rattle.user_world.specs.Timelines.{Timeline, OwnWorldsStand}
+use Rattle.user_world.proofs.Timelines.{line-quiet, line-settled}
+use Rattle.key_directory.specs.Vaults.{KeepsEntry, sealed}
+use Rattle.task_turns.specs.declared.calls.Answer.{Answer}
+use Rattle.task_turns.specs.declared.calls.Answer.TheVariants.{Done}
+use Rattle.task_turns.specs.declared.calls.Call.{Call}
+use Rattle.task_turns.specs.declared.calls.Call.TheVariants.{Op as OpCall, Sync, List as ListCall, Read}
+use Rattle.task_turns.specs.declared.calls.Call.TheVariants.{Generate, Encrypt, Entries}
+use Rattle.task_turns.specs.declared.next.Next.TheVariants.{Call as CallNext}
+use Rattle.bench.specs.declared.made.Made.{Made}
+use Rattle.bench.specs.declared.made.Made.TheVariants.{Heard, Failed}
+use Rattle.bench.specs.Bench.{Plain as Seen, Fits, Does, IsFailed, IsMade, places_after}
 use Rattle.vold_book.specs.declared.recovery.Recovery.{Recovery}
-use Rattle.vold_book.specs.declared.recovery.Recovery.TheVariants.{Sweeping}
+use Rattle.vold_book.specs.declared.recovery.Recovery.TheVariants.{Listing, Sweeping, Reading, Settled, Listed}
 use Rattle.vold_book.specs.declared.tasks.Running.{Running}
+use Rattle.vold_book.specs.declared.tasks.Task.{Task}
 use Rattle.vold_book.specs.declared.tasks.Task.TheVariants.{Recovery as Recovers}
-use Rattle.vold_book.specs.Calls.{Fits, Does, IsFailed}
-use Rattle.vold_book.specs.Places.{PlaceMap, KnowsPlaces, IsLeft, IsFirstLeft}
-use Rattle.vold_book.specs.Recovery.{RecoveryCalls, RecoveryTurns}
-use Rattle.vold_book.specs.State.{Plain, machine_of, timeline, ground_of}
-use Rattle.vold_book.specs.Tasks.{RunsOn}
+use Rattle.vold_book.specs.Parts.{TrackerState, Agrees, noted}
+use Rattle.vold_book.specs.Recovery.{RecoveryRests, RecoveryCalls, RecoveryShows, recovery_after}
+use Rattle.vold_book.specs.State.{Plain, Ground, machine_of, timeline, ground_at, ground_of, vault_of}
+use Rattle.vold_book.specs.Tasks.{held_in, HoldsOwn, RunsOn, TaskStands, TaskShows, TaskAfter, TellsFault, Worked}
+use Rattle.vold_book.specs.Tasks.{Plans, HearsMade}
+use Rattle.vold_book.specs.Turns.{Making}
 use Rattle.vold_book.specs.Whole.{PhaseStands, Whole}
-use Rattle.vold_book.proofs.StepsMade.{same-line, step-fits, step-told, step-failed, all-changes}
-use Rattle.vold_book.proofs.Known.{known-view}
+use Rattle.vold_book.proofs.StepsMade.{same-line, step-fits, step-told, step-failed, failed-disk, all-changes}
 use Rattle.vold_book.proofs.Moves.{after_of, Moves}
 use Rattle.vold_book.proofs.Numbers.{quiet-synced}
 use Rattle.vold_book.proofs.Tracked.{ChangeIsTold, pending-noted, failed-durable, noted-stays}
-use Rattle.vold_book.proofs.UserTurns.{rests-down}
 
--- the removal of what is left half made shows what it has to for its owner
-module _ (seed : List ℕ) (line : Timeline) (places : PlaceMap) (whole : OwnWorldsStand (rehearsal seed) line)
-    (knows : KnowsPlaces places (view line.disk)) where
-  removes : (place : Place) → IsLeft places place → IsSome (map.get places place)
-      → StepShows (rehearsal seed) (user_of place) (own_of (user_of place) line) (quiet (RemoveDir (site_of place))) []
-  removes (De user) left there = absurd left
-  removes (Ce user slot) left there =
-      let none = absent-record seed line user whole (sym (knows (De user)) ∙ ap is_some left) in record {
-        fits = subst (λ part. IsSome (part (CeSite slot))) (sym (view-shown user _ line whole.shows))
-            (sym (knows (Ce user slot)) ∙ there);
-        noted =
-            ap (λ found. kind_if (is_some found) DropKind)
-            (absent-view (rehearsal seed) user (own_of user line) (whole.images user) none);
-        keeps = keeps-absent (rehearsal seed) user (own_of user line) (RemoveDir (CeSite slot)) none refl;
-        leads = tt;
-      }
-  removes (Temp user) left there = record {
-    fits =
-        subst (λ part. IsSome (part TempSite)) (sym (view-shown user _ line whole.shows))
-        (sym (knows (Temp user)) ∙ there);
-    noted = refl;
-    keeps = keeps-temp (rehearsal seed) user (own_of user line) (RemoveDir TempSite) refl (λ slot. refl);
-    leads = tt;
-  }
+-- who holds nothing holds its own
+holds-none : (ground : Ground) (actor : Actor) (held : List Blob) → held ≡ [] → HoldsOwn ground actor held
+holds-none ground actor held none = subst (HoldsOwn ground actor) (sym none)
+    (record { differ = tt; own = λ blob has. absurd (Contains-none blob has) })
 
-module _ (places : PlaceMap) (dirty : Bool) (recovery : Recovery) where
-  -- the turn of a recovery that stands at a stage
-  at_stage : (stage : Recovery) (next : Next Recovery) → recovery ≡ stage → RecoveryTurns places dirty stage next
-      → RecoveryTurns places dirty recovery next
-  at_stage stage next is turns = subst (λ r. RecoveryTurns places dirty r next) (sym is) turns
+-- a failed call leaves the entries
+failed-store : (before after : Seen) (call : Call) → IsFailed before after call → after.store ≡ before.store
+failed-store before after (OpCall user (MakeDir site) names) failed = ap (λ b. b.store) failed
+failed-store before after (OpCall user (Write site file bytes) names) failed = ap (λ b. b.store) failed.1
+failed-store before after (OpCall user (RenameFile site from to) names) failed = ap (λ b. b.store) failed
+failed-store before after (OpCall user (RenameDir from to) names) failed = ap (λ b. b.store) failed
+failed-store before after (OpCall user (RemoveFile site file) names) failed = ap (λ b. b.store) failed
+failed-store before after (OpCall user (RemoveDir site) names) failed = ap (λ b. b.store) failed
+failed-store before after Sync failed = ap (λ b. b.store) failed
+failed-store before after ListCall failed = ap (λ b. b.store) failed
+failed-store before after (Read place) failed = ap (λ b. b.store) failed
+failed-store before after (Generate tag app_id) failed = ap (λ b. b.store) failed
+failed-store before after (Encrypt blob app_id nonce key) failed = ap (λ b. b.store) failed
+failed-store before after Entries failed = ap (λ b. b.store) failed
 
-  pub remove-turn : (place : Place) (user : ℕ) (site : Site) → recovery ≡ Sweeping → user ≡ user_of place
-      → site ≡ site_of place → IsFirstLeft places (Some place)
-      → RecoveryTurns places dirty recovery (CallNext (OpCall user (RemoveDir site)) None Sweeping)
-  remove-turn place user site is is_user is_site first =
-      at_stage Sweeping (CallNext (OpCall user (RemoveDir site)) None Sweeping) is
-      (subst (λ u. RecoveryTurns places dirty Sweeping (CallNext (OpCall u (RemoveDir site)) None Sweeping))
-      (sym is_user)
-      (subst (λ s. RecoveryTurns places dirty Sweeping
-      (CallNext (OpCall (user_of place) (RemoveDir s)) None Sweeping)) (sym is_site)
-      (λ ground known is_dirty whole rests.
-      let left : IsLeft ground.places place × IsSome (map.get ground.places place) =
-      subst (λ p. IsLeft p place × IsSome (map.get p place)) (sym known) (first.0, first.1) in
-      let shows = removes ground.seed ground.line ground.places whole rests.1 place left.0 left.1 in
-      let op = RemoveDir (site_of place) in (
-        refl,
-        (
-          shows,
-          (
-            rests.0,
-            known-view ground.places ground.line.disk (user_of place) op
-                (step-fits ground.seed (user_of place) ground.line None [] whole op shows) rests.1,
-          ),
-        ),
-        omega arith,
-        omega arith,
-      ))))
+-- a recovery that rests may hear of its call
+recovery-hears : (ground : Ground) (recovery : Recovery) (made : Made) → RecoveryRests ground recovery
+    → HearsMade (Recovers recovery) made
+recovery-hears ground recovery (Failed device) rests = tt
+recovery-hears ground Listing (Heard answer) rests = tt
+recovery-hears ground Sweeping (Heard answer) rests = tt
+recovery-hears ground (Reading count) (Heard answer) rests = rests.1.2
+recovery-hears ground Settled (Heard answer) rests = tt
+recovery-hears ground Listed (Heard answer) rests = tt
+
+abbrev recovering : ℕ → Recovery → Running
+recovering number recovery = record { number = number; task = Recovers recovery }
+
+-- a call that makes no change, and what the recovery is then
+abbrev making : Recovery → Call → Task → Making
+making recovery call then = record { call = call; change = None; task = Recovers recovery; then = then }
 
 module _ (book : Plain) (actor : Actor) (number : ℕ) (recovery : Recovery) (whole : Whole book)
-    (runs : map.get book.docket.running actor ≡ Some (record { number = number; task = Recovers recovery }))
-    (on : RunsOn (ground_of book) (machine_of book) actor (record { number = number; task = Recovers recovery })) where
+    (runs : map.get book.docket.running actor ≡ Some (recovering number recovery))
+    (on : RunsOn (ground_of book) (machine_of book) actor (recovering number recovery)) where
   abbrev machine : Machine
   machine = machine_of book
 
   abbrev line : Timeline
-  line = timeline book.tree.disk machine
+  line = timeline book.bench.disk machine
 
+  abbrev meaning : Meaning
+  meaning = sealed (vault_of book.seed book.bench.store)
+
+  -- the machine is down
   pub recovery-down : book.tracker.phase ≡ Down
-  recovery-down = sym whole.agrees.phase ∙ rests-down (ground_of book) recovery on.stands.1
+  recovery-down = sym whole.agrees.phase ∙ on.stands.1.0
 
   not_up : book.tracker.phase ≡ Up → ⊥
   not_up up = differ (sym up ∙ recovery-down)
@@ -120,61 +106,104 @@ module _ (book : Plain) (actor : Actor) (number : ℕ) (recovery : Recovery) (wh
       differ : Up ≡ Down → ⊥
       differ e = cc
 
-  alone : (other : Actor) (o : Running) → map.get book.docket.running other ≡ Some o → other ≡ Boot
-  alone other o at = (subst (λ phase. PhaseStands phase book machine) recovery-down whole.phase).1 other o at
+  -- and nobody else runs a command
+  boots : (other : Actor) (o : Running) → map.get book.docket.running other ≡ Some o → other ≡ Boot
+  boots other o at = (subst (λ phase. PhaseStands phase book machine) recovery-down whole.phase).1 other o at
 
   pub nobody-else : (other : Actor) (o : Running) → other ≢ actor → map.get book.docket.running other ≡ Some o → ⊥
-  nobody-else other o differ at = differ (alone other o at ∙ sym (alone actor _ runs))
+  nobody-else other o differ at = differ (boots other o at ∙ sym (boots actor _ runs))
 
-  -- the device's conditions hold
-  pub recovery-fits : (call : Call) (then : Recovery) → RecoveryCalls (ground_of book) call then
-      → Fits (view book.tree.disk) call
-  recovery-fits (OpCall owner op) then calls = step-fits book.seed owner line None [] whole.worlds op calls.0
-  recovery-fits Sync then calls = tt
-  recovery-fits ListCall then calls = tt
+  -- the devices' conditions hold
+  fits : (call : Call) → RecoveryCalls (ground_of book) recovery call
+      → book.bench.list.next + book.bench.list.promised + length book.bench.store.entries < 2 ^ 63
+      → Fits book.bench call
+  fits (OpCall owner op names) calls few = step-fits meaning owner line None whole.worlds op calls.step
+  fits Sync calls few = tt
+  fits ListCall calls few = tt
+  fits (Read place) calls few = calls.0
+  fits (Generate tag app_id) calls few = absurd calls
+  fits (Encrypt blob app_id nonce key) calls few = absurd calls
+  fits Entries calls few = few
+
+  -- whether it makes a change is told rightly: it makes none
+  told : (call : Call) → RecoveryCalls (ground_of book) recovery call
+      → ChangeIsTold (view book.bench.disk) call false
+  told (OpCall owner op names) calls = step-told meaning owner line None whole.worlds op calls.step
+  told Sync calls = tt
+  told ListCall calls = tt
+  told (Read place) calls = tt
+  told (Generate tag app_id) calls = tt
+  told (Encrypt blob app_id nonce key) calls = tt
+  told Entries calls = tt
+
+  same_began : (began : BeganCommand) → map.get machine.running number ≡ Some began
+      → on.began.command ≡ began.command
+  same_began began at = ap (λ b. b.command) (same_Some on.began began (sym on.at ∙ at))
+
+  -- what a call without an entry leaves, which leaves the machine as it is
+  record Still (bench : Seen) (tracker : TrackerState) (then : Task) : Type 0 where
+    store : bench.store ≡ book.bench.store
+    agrees : Agrees tracker machine bench.disk
+    worlds : OwnWorldsStand meaning (timeline bench.disk machine)
+    stands : TaskStands (ground_at book.seed bench machine) then on.began
+    holds : held_in then ≡ []
+    phase : tracker.phase ≡ book.tracker.phase
+
+  still-moves : (bench : Seen) (tracker : TrackerState) (then : Task) → Still bench tracker then
+      → Moves book actor number (record { bench = bench; tracker = tracker; task = then; entry = None })
+  still-moves bench tracker then still = record {
+    may = tt;
+    quiet = tt;
+    agrees = still.agrees;
+    worlds = subst (λ store. OwnWorldsStand (sealed (vault_of book.seed store)) (timeline bench.disk machine))
+        (sym still.store) still.worlds;
+    boot = refl;
+    mine = record {
+      began = on.began;
+      at = on.at;
+      own = on.own;
+      stands = still.stands;
+      holds = holds-none _ actor (held_in then) still.holds;
+    };
+    on_machine = λ n differ. refl;
+    same_command = same_began;
+    others = λ other o differ at. absurd (nobody-else other o differ at);
+    kept = λ blob. subst (λ store. KeepsEntry (ground_of book).vault (vault_of book.seed store) blob)
+        (sym still.store) (λ entry at. at);
+    phase = still.phase;
+    up = λ up. absurd (not_up up);
+    durable = λ down durable. durable;
+  }
 
   -- a call that the device did
-  pub recovery-made : (counts : Counts) (call : Call) (then : Recovery) (disk : Disk) (places : PlaceMap)
-      → RecoveryCalls (ground_of book) call then → Does book.tree.disk disk book.places places call
-      → Moves book actor number (after_of book number call None (Recovers then)
-      (record { tree = record { disk = disk; counts = counts }; places = places; made = true }))
-  recovery-made counts (OpCall owner op) then disk places calls done =
-      subst (λ d. Moves book actor number (after_of book number (OpCall owner op) None (Recovers then)
-      (record { tree = record { disk = d; counts = counts }; places = places; made = true }))) (sym done.0)
-      (subst (λ p. Moves book actor number (after_of book number (OpCall owner op) None (Recovers then)
-      (record {
-        tree = record { disk = with_op book.tree.disk (op_of owner op); counts = counts };
-        places = p;
-        made = true;
-      }))) (sym done.1) (record {
-        may = tt;
-        quiet = tt;
+  abbrev Done_by : Call → Answer → Seen → Type 0
+  Done_by call answer bench = Moves book actor number
+      (after_of book number (making recovery call (Recovers (recovery_after call recovery))) (Heard answer) bench)
+
+  made-call : (call : Call) (answer : Answer) (bench : Seen) → RecoveryCalls (ground_of book) recovery call
+      → Does book.bench bench call answer → Done_by call answer bench
+  made-call (OpCall owner op names) answer bench calls does =
+      subst (λ b. Done_by (OpCall owner op names) answer b) (sym does.1) (still-moves _ _ _ (record {
+        store = refl;
         agrees = record {
           phase = whole.agrees.phase;
           boot = whole.agrees.boot;
           level = whole.agrees.level;
           durable = whole.agrees.durable;
-          pending =
-              pending-noted book.tree.disk _ book.tracker whole.agrees.pending book.places _
-              (OpCall owner op) false true
-              (step-told book.seed owner line None [] whole.worlds op calls.0) (refl, refl);
+          pending = pending-noted book.bench (record book.bench {
+            disk = with_op book.bench.disk (op_of owner op);
+            tree_counts = bench.tree_counts;
+            places = places_after book.bench.places owner op names;
+          }) book.tracker whole.agrees.pending (OpCall owner op names) false (Heard Done)
+              (told (OpCall owner op names) calls) (refl, refl);
         };
-        worlds = (line-quiet (rehearsal book.seed) line owner op [] whole.worlds calls.0).stands;
-        boot = refl;
-        mine = record { began = on.began; at = on.at; own = on.own; stands = (on.stands.0, calls.1) };
-        on_machine = λ n differ. refl;
-        same_command = λ b at. ap (λ c. c.command) (same_Some on.began b (sym on.at ∙ at));
-        others = λ other o differ at. absurd (nobody-else other o differ at);
+        worlds = (line-quiet meaning line owner op [] whole.worlds calls.step).stands;
+        stands = (on.stands.0, calls.comes.rests);
+        holds = refl;
         phase = refl;
-        up = λ up. absurd (not_up up);
-        durable = λ down durable. durable;
       }))
-  recovery-made counts Sync then disk places calls done =
-      subst (λ d. Moves book actor number (after_of book number Sync None (Recovers then)
-      (record { tree = record { disk = d; counts = counts }; places = places; made = true }))) (sym done.0)
-      (subst (λ p. Moves book actor number (after_of book number Sync None (Recovers then)
-      (record { tree = record { disk = synced book.tree.disk; counts = counts }; places = p; made = true })))
-      (sym done.1) (record {
+  made-call Sync answer bench calls does =
+      subst (λ b. Done_by Sync answer b) (sym does.1) (record {
         may = (number, subst (λ found. IsSomeAnd found (λ b. b.verdict ≡ None)) (sym on.at) on.stands.0.verdict);
         quiet = quiet-synced;
         agrees = record {
@@ -184,70 +213,145 @@ module _ (book : Plain) (actor : Actor) (number : ℕ) (recovery : Recovery) (wh
           durable = all-changes book whole;
           pending = refl;
         };
-        worlds = line-settled (rehearsal book.seed) line whole.worlds;
+        worlds = line-settled meaning line whole.worlds;
         boot = refl;
-        mine = record { began = on.began; at = on.at; own = on.own; stands = (on.stands.0, calls) };
+        mine = record {
+          began = on.began;
+          at = on.at;
+          own = on.own;
+          stands = (on.stands.0, calls.rests);
+          holds = holds-none _ actor [] refl;
+        };
         on_machine = λ n differ. refl;
-        same_command = λ b at. ap (λ c. c.command) (same_Some on.began b (sym on.at ∙ at));
+        same_command = same_began;
         others = λ other o differ at. absurd (nobody-else other o differ at);
+        kept = λ blob entry at. at;
         phase = refl;
         up = λ up. absurd (not_up up);
         durable = λ down durable. refl;
-      }))
-  recovery-made counts ListCall then disk places calls done =
-      subst (λ d. Moves book actor number (after_of book number ListCall None (Recovers then)
-      (record { tree = record { disk = d; counts = counts }; places = places; made = true }))) (sym done.0) (record {
-        may = tt;
-        quiet = tt;
+      })
+  made-call ListCall answer bench calls does =
+      subst (λ b. Done_by ListCall answer b) (sym does.2) (still-moves _ _ _ (record {
+        store = refl;
         agrees = whole.agrees;
         worlds = whole.worlds;
-        boot = refl;
-        mine = record { began = on.began; at = on.at; own = on.own; stands = (on.stands.0, calls places done.1) };
-        on_machine = λ n differ. refl;
-        same_command = λ b at. ap (λ c. c.command) (same_Some on.began b (sym on.at ∙ at));
-        others = λ other o differ at. absurd (nobody-else other o differ at);
+        stands = (on.stands.0, (calls bench.places does.1).rests);
+        holds = refl;
         phase = refl;
-        up = λ up. absurd (not_up up);
-        durable = λ down durable. durable;
-      })
+      }))
+  made-call (Read place) answer bench calls does =
+      subst (λ b. Done_by (Read place) answer b) (sym does.1) (still-moves _ _ _ (record {
+        store = refl;
+        agrees = whole.agrees;
+        worlds = whole.worlds;
+        stands = (on.stands.0, calls.1.rests);
+        holds = refl;
+        phase = refl;
+      }))
+  made-call (Generate tag app_id) answer bench calls does = absurd calls
+  made-call (Encrypt blob app_id nonce key) answer bench calls does = absurd calls
+  made-call Entries answer bench calls does =
+      subst (λ b. Done_by Entries answer b) (sym does.1.2) (still-moves _ _ _ (record {
+        store = refl;
+        agrees = whole.agrees;
+        worlds = whole.worlds;
+        stands = (on.stands.0, (calls.comes does.1.0 does.1.1).rests);
+        holds = refl;
+        phase = refl;
+      }))
+
+  unmoved : (bench : Seen) → bench.disk ≡ book.bench.disk → OwnWorldsStand meaning (timeline bench.disk machine)
+  unmoved bench same = (same-line meaning 0 line bench.disk whole.worlds same).stands
 
   -- and one that failed, which is told next
-  pub recovery-failed : (counts : Counts) (call : Call) (then : Recovery) (disk : Disk)
-      → RecoveryCalls (ground_of book) call then → IsFailed book.tree.disk disk call
-      → Moves book actor number (after_of book number call None (Recovers then)
-      (record { tree = record { disk = disk; counts = counts }; places = book.places; made = false }))
-  recovery-failed counts call then disk calls failed =
-      let stays = noted-stays false call false book.tracker in record {
-        may = tt;
-        quiet = tt;
+  failed-worlds : (call : Call) (bench : Seen) → RecoveryCalls (ground_of book) recovery call
+      → IsFailed book.bench bench call → OwnWorldsStand meaning (timeline bench.disk machine)
+  failed-worlds (OpCall owner op names) bench calls failed =
+      (step-failed meaning owner line None whole.worlds op bench.disk calls.step
+      (failed-disk book.bench bench owner op failed)).stands
+  failed-worlds Sync bench calls failed = unmoved bench (ap (λ b. b.disk) failed)
+  failed-worlds ListCall bench calls failed = unmoved bench (ap (λ b. b.disk) failed)
+  failed-worlds (Read place) bench calls failed = unmoved bench (ap (λ b. b.disk) failed)
+  failed-worlds (Generate tag app_id) bench calls failed = absurd calls
+  failed-worlds (Encrypt blob app_id nonce key) bench calls failed = absurd calls
+  failed-worlds Entries bench calls failed = unmoved bench (ap (λ b. b.disk) failed)
+
+  failed-call : (call : Call) (device : Device) (then : Task) (bench : Seen)
+      → RecoveryCalls (ground_of book) recovery call → IsMade book.bench bench call (Ok (Failed device))
+      → TellsFault device [] then
+      → Moves book actor number (after_of book number (making recovery call then) (Failed device) bench)
+  failed-call call device then bench calls made tells =
+      let stays = noted-stays false call false book.tracker in
+      still-moves bench (noted false call false book.tracker) then (record {
+        store = failed-store book.bench bench call made.1;
         agrees = record {
           phase = whole.agrees.phase ∙ sym stays.phase;
           boot = whole.agrees.boot ∙ sym stays.boot;
           level = whole.agrees.level ∙ sym stays.level;
           durable = whole.agrees.durable ∙ sym (failed-durable call false book.tracker);
-          pending =
-              pending-noted book.tree.disk disk book.tracker whole.agrees.pending book.places book.places
-              call false false (told call calls) (failed, refl);
+          pending = pending-noted book.bench bench book.tracker whole.agrees.pending call false (Failed device)
+              (told call calls) made;
         };
-        worlds = kept call calls failed;
-        boot = refl;
-        mine = record { began = on.began; at = on.at; own = on.own; stands = on.stands.0.verdict };
-        on_machine = λ n differ. refl;
-        same_command = λ b at. ap (λ c. c.command) (same_Some on.began b (sym on.at ∙ at));
-        others = λ other o differ at. absurd (nobody-else other o differ at);
+        worlds = failed-worlds call bench calls made.1;
+        stands = subst (λ t. TaskStands (ground_at book.seed bench machine) t on.began) (sym tells.is)
+            on.stands.0.verdict;
+        holds = ap held_in tells.is ∙ tells.all;
         phase = stays.phase;
-        up = λ up. absurd (not_up up);
-        durable = λ down durable. durable;
-      }
-    where
-      told : (call : Call) → RecoveryCalls (ground_of book) call then → ChangeIsTold (view book.tree.disk) call false
-      told (OpCall owner op) calls = step-told book.seed owner line None [] whole.worlds op calls.0
-      told Sync calls = tt
-      told ListCall calls = tt
+      })
 
-      kept : (call : Call) → RecoveryCalls (ground_of book) call then → IsFailed book.tree.disk disk call
-          → OwnWorldsStand (rehearsal book.seed) (record line { disk = disk })
-      kept (OpCall owner op) calls failed =
-          (step-failed book.seed owner line None [] whole.worlds op disk calls.0 failed).stands
-      kept Sync calls failed = (same-line book.seed 0 line disk whole.worlds failed).stands
-      kept ListCall calls failed = (same-line book.seed 0 line disk whole.worlds failed).stands
+  -- a call of the recovery's, by how it went
+  by-made : (call : Call) (made : Made) (then : Task) (bench : Seen) → RecoveryCalls (ground_of book) recovery call
+      → IsMade book.bench bench call (Ok made) → TaskAfter call made (Recovers recovery) then
+      → Moves book actor number (after_of book number (making recovery call then) made bench)
+  by-made call (Heard answer) then bench calls does after =
+      subst (λ t. Moves book actor number (after_of book number (making recovery call t) (Heard answer) bench))
+      (sym after) (made-call call answer bench calls does)
+  by-made call (Failed device) then bench calls failed tells = failed-call call device then bench calls failed tells
+
+-- a recovery asks for no job
+no-job : (ground : Ground) (began : BeganCommand) (recovery : Recovery) (now : Task) (job : Option Job)
+    → Worked ground began (Recovers recovery) now job → now ≡ Recovers recovery
+no-job ground began recovery now None worked = worked
+no-job ground began recovery now (Some job) worked = absurd worked
+
+-- the same for what a recovery plans
+module _ (book : Plain) (actor : Actor) (it : Running) (recovery : Recovery) (whole : Whole book)
+    (is : it.task ≡ Recovers recovery) where
+  module _ (now : Task) (call : Call) (change : Option LocalChange)
+      (plans : Plans book actor it now (CallNext call change)) where
+    same_now : now ≡ Recovers recovery
+    same_now = no-job (ground_of book) plans.on.began recovery now plans.job
+        (subst (λ t. Worked (ground_of book) plans.on.began t now plans.job) is plans.worked)
+
+    shown : RecoveryShows (ground_of book) recovery (CallNext call change)
+    shown = subst (λ t. TaskShows (ground_of book) plans.on.began t (CallNext call change)) same_now plans.shows
+
+    runs_it : map.get book.docket.running actor ≡ Some (recovering it.number recovery)
+    runs_it = plans.runs ∙ ap (λ t. Some (record { number = it.number; task = t })) is
+
+    on_it : RunsOn (ground_of book) (machine_of book) actor (recovering it.number recovery)
+    on_it = subst (λ t. RunsOn (ground_of book) (machine_of book) actor (record { number = it.number; task = t })) is
+        plans.on
+
+    -- the devices' conditions hold
+    pub recovery-fits :
+        book.bench.list.next + book.bench.list.promised + length book.bench.store.entries < 2 ^ 63
+        → Fits book.bench call
+    recovery-fits few = fits book actor it.number recovery whole runs_it on_it call shown.1 few
+
+    -- the task may hear of its call
+    pub recovery-heard : (made : Made) → HearsMade now made
+    recovery-heard made = subst (λ t. HearsMade t made) (sym same_now)
+        (recovery-hears (ground_of book) recovery made on_it.stands.1)
+
+    -- and the call leaves what it has to
+    pub recovery-moves : (made : Made) (then : Task) (bench : Seen) → IsMade book.bench bench call (Ok made)
+        → TaskAfter call made now then
+        → Moves book actor it.number
+        (after_of book it.number (record { call = call; change = change; task = now; then = then }) made bench)
+    recovery-moves made then bench is_made after =
+        subst (λ c. Moves book actor it.number
+        (after_of book it.number (record { call = call; change = c; task = now; then = then }) made bench))
+        (sym shown.0)
+        (by-made book actor it.number recovery whole runs_it on_it call made then bench shown.1 is_made
+        (subst (λ t. TaskAfter call made t then) same_now after))

@@ -1,6 +1,6 @@
 -- A turn that gives a reply keeps a Book whole.
-use Rattle.std.proofs.Common.{◌≡◌, ◌≢◌, ℕ, inl, inr, [], ◌∷◌, ◌++◌, refl, sym, ap, ◌∙◌, subst}
-use Rattle.std.proofs.lemmas.Option.{none-some}
+use Rattle.std.proofs.Common.{◌≡◌, ◌≢◌, ℕ, ◌+◌, inl, inr, [], ◌∷◌, ◌++◌, refl, sym, ap, ◌∙◌, subst}
+use Rattle.std.proofs.lemmas.Option.{none-some, same_Some}
 use Rattle.std.specs.Prelude.{◌⊎◌, Some, None, IsSomeAnd, Contains, slice_get}
 use Rattle.std.specs.Cmp.{nat_cmp_total}
 use Rattle.std.specs.FinMap as map
@@ -16,11 +16,11 @@ use Rattle.journal_model.specs.declared.phase.Phase.TheVariants.{Up, Down, Halte
 use Rattle.journal_model.specs.Actor.{actor_cmp, actor_total, actor_exact}
 use Rattle.journal_model.specs.Command.{actor_of}
 use Rattle.journal_model.specs.Machine.{Machine, Running as BeganCommand, after_entry, if_running, phase_after}
-use Rattle.journal_model.specs.Machine.{IsDurable, kind_of_reply, Success, Refusal as RefusalKind, Fault as FaultKind}
+use Rattle.journal_model.specs.Machine.{IsDurable, kind_of_reply, Success, Refusal as RefusalKind}
 use Rattle.journal_model.specs.Machine.{AllowsSuccess, MayEnd, Succeeds, AllowsReply}
 use Rattle.journal_model.proofs.ByCommand.{phase-stays, success-more, user-stays}
 use Rattle.journal_model.proofs.Steps.{machine_after-append, legal-append}
-use Rattle.user_world.specs.declared.turns.Next.TheVariants.{Reply as ReplyNext}
+use Rattle.task_turns.specs.declared.next.Next.TheVariants.{Reply as ReplyNext}
 use Rattle.user_world.specs.Changes.{local_of}
 use Rattle.user_world.specs.Timelines.{own_of}
 use Rattle.user_world.specs.Turns.{IsLogged, AreDurable}
@@ -30,17 +30,25 @@ use Rattle.user_tasks.specs.Tasks.{user_of}
 use Rattle.vold_book.specs.declared.tasks.Running.{Running}
 use Rattle.vold_book.specs.declared.tasks.Task.{Task}
 use Rattle.vold_book.specs.declared.tasks.Task.TheVariants.{User as Using, Recovery as Recovers, Refusal, Fault}
-use Rattle.vold_book.specs.Places.{IsTidy}
-use Rattle.vold_book.specs.State.{Plain, machine_of, timeline, ground_of}
-use Rattle.vold_book.specs.Tasks.{TaskStands, RunsOn, TaskShows, Plans}
-use Rattle.vold_book.specs.Turns.{after_reply}
-use Rattle.vold_book.specs.Whole.{PhaseStands, IsCharged, AllRun, Whole}
-use Rattle.vold_book.proofs.Moves.{whole-of, runs_apart}
+use Rattle.journal_model.specs.declared.entries.Device.{Device}
+use Rattle.journal_model.specs.declared.entries.Device.TheVariants.{Tree, Store}
+use Rattle.bench.specs.Bench.{listed}
+use Rattle.vold_book.specs.Recovery.{IsSettled, AllPlaced}
+use Rattle.vold_book.specs.Turns.{IsTidied}
+use Rattle.blob_custody.specs.Custody.{IsListed}
+use Rattle.vold_book.proofs.Custodies.{relisted}
+use Rattle.journal_model.specs.declared.commands.Command.{Command}
+use Rattle.vold_book.specs.State.{Plain, Ground, machine_of, timeline, ground_of}
+use Rattle.vold_book.specs.Tasks.{TaskStands, RunsOn, TaskShows, Plans, lists_with, fault_of}
+use Rattle.vold_book.specs.Whole.{PhaseStands, AllRun, Whole}
+use Rattle.vold_book.proofs.Moves.{Steady, whole-of, runs_apart}
 use Rattle.vold_book.proofs.Numbers.{quiet-replied, numbers-quiet, numbers-running}
-use Rattle.vold_book.proofs.RecoveryTurns.{recovery-down, nobody-else}
+use Rattle.vold_book.proofs.Plains.{replied_plain}
+use Rattle.vold_book.proofs.Shown.{next_reply}
+use Rattle.vold_book.proofs.Worked.{stands-now, recovers-it}
 
-module _ (book : Plain) (actor : Actor) (it : Running) (reply : Reply) (whole : Whole book)
-    (plans : Plans book actor it (ReplyNext reply)) where
+module _ (book : Plain) (actor : Actor) (it : Running) (now : Task) (reply : Reply) (whole : Whole book)
+    (plans : Plans book actor it now (ReplyNext reply)) where
   abbrev machine : Machine
   machine = machine_of book
 
@@ -50,8 +58,9 @@ module _ (book : Plain) (actor : Actor) (it : Running) (reply : Reply) (whole : 
   -- a recovery ended that left nothing half made, and nothing else runs
   record Recovered (phase : Phase) : Type 0 where
     up : phase ≡ Up
-    tidy : IsTidy book.places (view book.tree.disk)
-    still : book.tree.disk.pending ≡ []
+    settled : IsSettled (ground_of book)
+    placed : AllPlaced book.bench.store.entries (view book.bench.disk) book.bench.list
+    lists : lists_with it.task ≡ []
     alone : (other : Actor) (o : Running) → other ≢ actor → map.get book.docket.running other ≡ Some o → ⊥
 
   -- the phase stays, or it is up then
@@ -69,21 +78,29 @@ module _ (book : Plain) (actor : Actor) (it : Running) (reply : Reply) (whole : 
       → AllowsReply machine began began.verdict reply
   none-allows none may = subst (λ verdict. AllowsReply machine began verdict reply) (sym none) may
 
-  -- whatever the task, the reply may be given
-  ends : (task : Task) → it.task ≡ task → Ends
-  ends task is =
-      by task (subst (λ t. TaskStands (ground_of book) t began) is plans.on.stands)
-      (subst (λ t. TaskShows (ground_of book) began t (ReplyNext reply)) is plans.shows)
-      (subst (λ t. map.get book.docket.running actor ≡ Some (record { number = it.number; task = t })) is plans.runs)
-      (subst (λ t. RunsOn (ground_of book) machine actor (record { number = it.number; task = t })) is plans.on)
+  -- where the machine is down, nobody but this actor runs
+  nobody-else : machine.phase ≡ Down → (other : Actor) (o : Running) → other ≢ actor
+      → map.get book.docket.running other ≡ Some o → ⊥
+  nobody-else down other o differ at = by book.tracker.phase (sym whole.agrees.phase ∙ down) whole.phase
     where
-      by : (task : Task) → TaskStands (ground_of book) task began
-          → TaskShows (ground_of book) began task (ReplyNext reply)
-          → map.get book.docket.running actor ≡ Some (record { number = it.number; task = task })
-          → RunsOn (ground_of book) machine actor (record { number = it.number; task = task }) → Ends
-      by (Using task) stands shows runs on =
+      by : (phase : Phase) → phase ≡ Down → PhaseStands phase book machine → ⊥
+      by Up is stands = cc
+      by Down is stands = differ (stands.1 other o at ∙ sym (stands.1 actor it plans.runs))
+      by Halted is stands = cc
+
+  durable-down : machine.phase ≡ Down → IsDurable machine None
+  durable-down down =
+      (subst (λ phase. PhaseStands phase book machine) (sym whole.agrees.phase ∙ down) whole.phase).0
+
+  -- whatever the task, the reply may be given
+  ends : Ends
+  ends = by now refl (stands-now book actor it now (ReplyNext reply) plans) plans.shows
+    where
+      by : (task : Task) → now ≡ task → TaskStands (ground_of book) task began
+          → TaskShows (ground_of book) began task (ReplyNext reply) → Ends
+      by (Using task) same stands shows =
           let user = user_of task in
-          let line = timeline book.tree.disk machine in record {
+          let line = timeline book.bench.disk machine in record {
             may =
                 none-allows stands.accepted
                 (subst (λ kind. MayEnd kind (Succeeds machine began reply)) (sym shows.success)
@@ -95,9 +112,8 @@ module _ (book : Plain) (actor : Actor) (it : Running) (reply : Reply) (whole : 
                 machine.boot began began.command reply shows.may));
             goes = inl (user-stays machine.phase user began.command reply stands.of_user);
           }
-      by (Recovers recovery) stands shows runs on =
-          let down = recovery-down book actor it.number recovery whole runs on in
-          let durable = (subst (λ phase. PhaseStands phase book machine) down whole.phase).0 in record {
+      by (Recovers recovery) same stands shows =
+          let durable = durable-down stands.1.0 in record {
             may =
                 none-allows stands.0.verdict
                 (subst (λ r. MayEnd (kind_of_reply r) (Succeeds machine began r)) (sym shows.ended)
@@ -106,25 +122,37 @@ module _ (book : Plain) (actor : Actor) (it : Running) (reply : Reply) (whole : 
             goes = inr (record {
               up = ap (λ r. phase_after machine.phase began.command r) shows.ended
                   ∙ ap (λ c. phase_after machine.phase c (Ended 0)) stands.0.command;
-              tidy = shows.tidy;
-              still = shows.still;
-              alone = λ other o differ at. nobody-else book actor it.number recovery whole runs on other o differ at;
+              settled = shows.settled;
+              placed = shows.placed;
+              lists = ap lists_with
+                  (recovers-it (ground_of book) began it.task now plans.job recovery plans.worked same);
+              alone = nobody-else stands.1.0;
             });
           }
-      by (Refusal refusal) stands shows runs on = record {
-        may = subst (λ verdict. AllowsReply machine began verdict reply) (sym stands.0) shows;
-        goes = stays (λ success. refusal_success (sym stands.1 ∙ ap kind_of_reply (sym shows) ∙ success));
+      by (Refusal refusal) same stands shows = record {
+        may = subst (λ verdict. AllowsReply machine began verdict reply) (sym stands.0)
+            (next_reply reply refusal shows);
+        goes = stays (λ success. refusal_success
+            (sym stands.1 ∙ ap kind_of_reply (sym (next_reply reply refusal shows)) ∙ success));
       }
         where
           refusal_success : RefusalKind ≡ Success → ⊥
           refusal_success e = cc
-      by Fault stands shows runs on = record {
-        may = none-allows stands (subst (λ r. MayEnd (kind_of_reply r) (Succeeds machine began r)) (sym shows) tt);
-        goes = stays (λ success. fault_success (ap kind_of_reply (sym shows) ∙ success));
-      }
+      by (Fault device held) same stands shows =
+          let told = next_reply reply (fault_of device) shows in record {
+            may = none-allows stands (subst (λ r. MayEnd (kind_of_reply r) (Succeeds machine began r)) (sym told)
+                (may-fault device));
+            goes = stays (λ success. fault_success device (ap kind_of_reply (sym told) ∙ success));
+          }
         where
-          fault_success : FaultKind ≡ Success → ⊥
-          fault_success e = cc
+          may-fault : (device : Device) → MayEnd (kind_of_reply (fault_of device))
+              (Succeeds machine began (fault_of device))
+          may-fault Tree = tt
+          may-fault Store = tt
+
+          fault_success : (device : Device) → kind_of_reply (fault_of device) ≡ Success → ⊥
+          fault_success Tree e = cc
+          fault_success Store e = cc
 
   abbrev machine' : Machine
   machine' = after_entry book.ledger.entries machine (Replied it.number reply)
@@ -156,23 +184,40 @@ module _ (book : Plain) (actor : Actor) (it : Running) (reply : Reply) (whole : 
   was_run other o at =
       sym (get-remove_other actor_total actor_exact book.docket.running actor other (not_mine other o at)) ∙ at
 
+  abbrev ground' : Ground
+  ground' = record (ground_of book) {
+    phase = machine'.phase;
+    list = listed book.bench.list (lists_with it.task);
+  }
+
   -- another command stands as it did, where the phase stays
   same-phase : (other : Actor) (o : Running) → map.get running' other ≡ Some o
       → PhaseGoes (phase_after machine.phase began.command reply) → (b : BeganCommand)
-      → TaskStands (ground_of book) o.task b → TaskStands (record (ground_of book) { phase = machine'.phase }) o.task b
+      → TaskStands (ground_of book) o.task b → TaskStands ground' o.task b
   same-phase other o at (inl same) b stands =
-      subst (λ phase. TaskStands (record (ground_of book) { phase = phase }) o.task b) (sym (phase-is ∙ same)) stands
+      subst (λ phase. TaskStands (record ground' { phase = phase }) o.task b) (sym (phase-is ∙ same))
+      (same-list o.task stands)
+    where
+      -- only a recovery rests on the list, and then nobody else runs
+      same-list : (task : Task) → TaskStands (ground_of book) task b
+          → TaskStands (record ground' { phase = machine.phase }) task b
+      same-list (Using task) stands = stands
+      same-list (Recovers recovery) stands =
+          absurd (nobody-else stands.1.0 other o (not_mine other o at) (was_run other o at))
+      same-list (Refusal refusal) stands = stands
+      same-list (Fault device held) stands = stands
   same-phase other o at (inr up) b stands = absurd (up.alone other o (not_mine other o at) (was_run other o at))
 
   run-then : (other : Actor) (o : Running) → map.get running' other ≡ Some o
-      → RunsOn (record (ground_of book) { phase = machine'.phase }) machine' other o
+      → RunsOn ground' machine' other o
   run-then other o at =
       let run = whole.run other o (was_run other o at) in
       let apart = runs_apart machine actor other it o _ _ plans.on run (not_mine other o at) in record {
         began = run.began;
         at = get-remove_other nat_cmp_total nat_cmp-IsAntisymmetric machine.running it.number o.number apart ∙ run.at;
         own = run.own;
-        stands = same-phase other o at (ends it.task refl).goes run.began run.stands;
+        stands = same-phase other o at ends.goes run.began run.stands;
+        holds = record { differ = run.holds.differ; own = run.holds.own };
       }
 
   all-then : AllRun machine' running'
@@ -187,12 +232,12 @@ module _ (book : Plain) (actor : Actor) (it : Running) (reply : Reply) (whole : 
           (ap (map.get book.docket.running) same ∙ plans.runs) was))
 
   abbrev after : Plain
-  after = after_reply book actor it.number began.command reply
+  after = replied_plain book actor it began.command reply
 
   stands-then : (phase : Phase) → machine.phase ≡ phase → PhaseStands phase book machine
       → PhaseGoes (phase_after machine.phase began.command reply) → PhaseStands machine'.phase after machine'
   stands-then phase is stands (inr up) =
-      subst (λ p. PhaseStands p after machine') (sym (phase-is ∙ up.up)) up.tidy.known
+      subst (λ p. PhaseStands p after machine') (sym (phase-is ∙ up.up)) up.settled.tidy.known
   stands-then Up is stands (inl same) = subst (λ p. PhaseStands p after machine') (sym (phase-is ∙ same ∙ is)) stands
   stands-then Down is stands (inl same) = subst (λ p. PhaseStands p after machine') (sym (phase-is ∙ same ∙ is))
       (stands.0, λ other o at. stands.1 other o (was_run other o at))
@@ -200,15 +245,32 @@ module _ (book : Plain) (actor : Actor) (it : Running) (reply : Reply) (whole : 
       absurd (none-some it
       (sym (map.get-empty actor_cmp actor) ∙ ap (λ m. map.get m actor) (sym stands.2) ∙ plans.runs))
 
-  pub whole-replied : IsCharged after → Whole after
-  whole-replied charged =
+  -- where the machine comes up, nothing is half made and every blob is placed
+  tidied : book.tracker.phase ≢ Up → phase_after book.tracker.phase began.command reply ≡ Up → IsTidied after
+  tidied down up = by ends.goes
+    where
+      by : PhaseGoes (phase_after machine.phase began.command reply) → IsTidied after
+      by (inl same) = absurd (down (sym whole.agrees.phase ∙ sym same
+          ∙ ap (λ p. phase_after p began.command reply) whole.agrees.phase ∙ up))
+      by (inr recovered) = record {
+        tidy = recovered.settled.tidy;
+        still = recovered.settled.still;
+        placed = λ blob live. elim (recovered.placed blob live) [
+          | inl named ↦ inl named
+          | inr waits ↦ inr (subst (λ blobs. IsListed (listed book.bench.list blobs) blob) (sym recovered.lists)
+              (relisted book.bench.list book.bench.list.next (book.bench.list.promised + 0) blob waits))
+        ];
+      }
+
+  pub whole-replied : Steady after → Whole after
+  whole-replied steady =
       let entry = Replied it.number reply in
       let may = subst (λ found. IsSomeAnd found (λ b. AllowsReply machine b b.verdict reply)) (sym plans.on.at)
-      (ends it.task refl).may in
+      ends.may in
       let phase : machine'.phase ≡ phase_after book.tracker.phase began.command reply =
       phase-is ∙ ap (λ p. phase_after p began.command reply) whole.agrees.phase in
       whole-of after machine' (machine_after-append book.ledger.entries entry)
-      (legal-append book.ledger.entries entry whole.legal may) whole.short charged (record {
+      (legal-append book.ledger.entries entry whole.legal may) steady (record {
         agrees = record {
           phase = phase;
           boot = whole.agrees.boot;
@@ -226,5 +288,15 @@ module _ (book : Plain) (actor : Actor) (it : Running) (reply : Reply) (whole : 
         phase = subst (λ p. PhaseStands p after machine') phase
             (stands-then machine.phase refl
             (subst (λ p. PhaseStands p book machine) (sym whole.agrees.phase) whole.phase)
-            (ends it.task refl).goes);
+            ends.goes);
       })
+
+pub replied-up : (book : Plain) (actor : Actor) (it : Running) (now : Task) (reply : Reply) (whole : Whole book)
+    (plans : Plans book actor it now (ReplyNext reply)) (command : Command)
+    → slice_get book.docket.commands it.number ≡ Some command → book.tracker.phase ≢ Up
+    → phase_after book.tracker.phase command reply ≡ Up → IsTidied (replied_plain book actor it command reply)
+replied-up book actor it now reply whole plans command is_given down up =
+    let same : plans.on.began.command ≡ command = same_Some plans.on.began.command command
+    (sym (whole.numbers.given it.number plans.on.began plans.on.at).given ∙ is_given) in
+    subst (λ c. phase_after book.tracker.phase c reply ≡ Up → IsTidied (replied_plain book actor it c reply)) same
+    (tidied book actor it now reply whole plans down) up

@@ -1,80 +1,480 @@
--- What the plan of each kind of task says of its turns: only a fault tells of a failure, and fewer turns are left.
-use Rattle.std.proofs.Common.{◌≡◌, ◌≢◌, ◌+◌, ◌<◌, refl, sym, ap, ◌∙◌, arith}
-use Rattle.std.specs.Prelude.{Option}
+-- What the plan of each kind of task says of its turns: only a fault tells of a failure, fewer turns are left, and no
+-- more directories, entries and listed blobs come than were said to.
+use Rattle.std.proofs.Common.{◌≡◌, ◌+◌, ◌<◌, ◌≤◌, ℕ, Bool, true, false, cond, [], ◌++◌, length, length-append}
+use Rattle.std.proofs.Common.{refl, sym, ap, ◌∙◌, subst, arith}
+use Rattle.std.specs.Prelude.{◌↔◌, option_to_list, Option, Some, None, is_some, Ok}
+use Rattle.std.specs.FinMap as map
+use Rattle.tree_model.specs.declared.blobs.Blob.{Blob}
+use Rattle.tree_model.specs.declared.places.Place.{Place}
+use Rattle.tree_model.specs.declared.sites.LocalOp.{LocalOp}
+use Rattle.tree_model.specs.declared.sites.LocalOp.TheVariants.{MakeDir, Write, RenameFile}
+use Rattle.tree_model.specs.declared.sites.LocalOp.TheVariants.{RenameDir, RemoveFile, RemoveDir}
+use Rattle.tree_model.specs.Order.{place_total}
+use Rattle.tree_model.specs.Sites.{place_of}
+use Rattle.tree_model.specs.Tree.{if_there}
+use Rattle.seal_model.specs.Sealed.{sealed_text}
+use Rattle.journal_model.specs.declared.commands.Actor.{Actor}
 use Rattle.journal_model.specs.declared.commands.Reply.{Reply}
-use Rattle.journal_model.specs.declared.commands.Reply.TheVariants.{Ended, TreeFault}
+use Rattle.journal_model.specs.declared.entries.Device.{Device}
+use Rattle.journal_model.specs.declared.entries.Device.TheVariants.{Tree as TreeDevice, Store as StoreDevice}
 use Rattle.journal_model.specs.Machine.{Running as Began, kind_of_reply, Success}
 use Rattle.journal_model.specs.Machine.{Refusal as RefusalKind, Fault as FaultKind}
+use Rattle.keystore_model.specs.Store.{IsStore, entry_of}
+use Rattle.keystore_model.proofs.Stores.{not-given}
 use Rattle.user_world.specs.declared.changes.LocalChange.{LocalChange}
-use Rattle.user_world.specs.declared.turns.Call.{Call}
-use Rattle.user_world.specs.declared.turns.Next.TheVariants.{Call as CallNext, Reply as ReplyNext}
-use Rattle.user_world.specs.Turns.{adds, takes}
-use Rattle.vold_book.specs.declared.recovery.Recovery.TheVariants.{Listing, Sweeping, Swept}
+use Rattle.user_world.specs.Turns.{adds_local, takes_local}
+use Rattle.step_core.specs.declared.jobs.Job.{Job}
+use Rattle.step_core.specs.Table.{NamedPlaces}
+use Rattle.task_turns.specs.declared.calls.Answer.{Answer}
+use Rattle.task_turns.specs.declared.calls.Answer.TheVariants.{Blob as IsBlob, Sealed}
+use Rattle.task_turns.specs.declared.calls.Call.{Call}
+use Rattle.task_turns.specs.declared.calls.Call.TheVariants.{Op as OpCall, Sync, List as ListCall, Read}
+use Rattle.task_turns.specs.declared.calls.Call.TheVariants.{Generate, Encrypt, Entries}
+use Rattle.task_turns.specs.declared.next.Next.TheVariants.{Call as CallNext, Reply as ReplyNext}
+use Rattle.task_turns.specs.Turns.{Scene, Cost, cost_of, no_cost, CallStands}
+use Rattle.bench.specs.declared.made.Made.{Made}
+use Rattle.bench.specs.declared.made.Made.TheVariants.{Heard, Failed}
+use Rattle.bench.specs.Bench.{Plain as Seen, Does, IsMade, device_of, was_done, places_after}
+use Rattle.user_tasks.specs.Tasks.{UserTask, tasks, user_of, rest_of}
+use Rattle.vold_book.specs.declared.recovery.Recovery.{Recovery}
+use Rattle.vold_book.specs.declared.recovery.Recovery.TheVariants.{Listing, Sweeping, Reading, Settled, Listed}
+use Rattle.vold_book.specs.declared.tasks.Held.{Held}
+use Rattle.vold_book.specs.declared.tasks.Running.{Running}
 use Rattle.vold_book.specs.declared.tasks.Task.{Task}
 use Rattle.vold_book.specs.declared.tasks.Task.TheVariants.{User as Using, Recovery as Recovers, Refusal, Fault}
-use Rattle.vold_book.specs.Recovery.{Ground}
-use Rattle.vold_book.specs.Tasks.{TaskStands, TaskShows}
-use Rattle.vold_book.specs.Whole.{due_in, turns_of_task}
+use Rattle.vold_book.specs.Recovery.{max_places, recovery_left, recovery_after, with_read}
+use Rattle.vold_book.specs.Recovery.{RecoveryCalls}
+use Rattle.vold_book.specs.State.{Plain, Ground, ground_of}
+use Rattle.vold_book.specs.Tasks.{TaskStands, TaskShows, TaskAfter, Worked, Plans, lists_with, fault_of}
+use Rattle.vold_book.specs.Tasks.{scene_of, task_heard}
+use Rattle.vold_book.specs.Turns.{Making, IsFault}
+use Rattle.vold_book.specs.Whole.{turns_of_task, makes_in, draws_in, lists_in, due_in, same_device}
 
--- a call leads to no fault of its own, and to fewer turns
-pub record CallFalls (call : Call) (task then : Task) : Type 0 where
-  pub no_fault : then ≢ Fault
-  pub falls : turns_of_task then + adds call < turns_of_task task + takes call
-  pub lasts : 1 < turns_of_task task
+-- a blob that is heard has its 32 bytes
+abbrev pub HearsWhole : Made → Type 0
+HearsWhole made = (blob : Blob) → made ≡ Heard (IsBlob blob) → length blob ≡ 32
 
-pub due-none : (task : Task) → task ≢ Fault → due_in task ≡ 0
-due-none (Using task) differ = refl
-due-none (Recovers recovery) differ = refl
-due-none (Refusal reply) differ = refl
-due-none Fault differ = absurd (differ refl)
+-- what a call cost, and how many blobs it listed at most
+abbrev pub cost_made : Call → Made → Cost
+cost_made call (Heard answer) = cost_of call
+cost_made call (Failed device) = no_cost
 
-module _ (ground : Ground) (began : Began) where
-  pub call-falls : (call : Call) (change : Option LocalChange) (task then : Task)
-      → TaskShows ground began task (CallNext call change then) → CallFalls call task then
-  call-falls call change (Using task) (Using then) shows = record {
-    no_fault = λ e. cc;
-    falls = shows.falls;
-    lasts = shows.lasts;
+abbrev pub lists_done : Call → ℕ
+lists_done Entries = max_places
+lists_done call = 0
+
+abbrev pub lists_made : Call → Made → ℕ
+lists_made call (Heard answer) = lists_done call
+lists_made call (Failed device) = 0
+
+-- a failure that is due once a call was made
+abbrev pub due_made : Device → Made → ℕ
+due_made device (Heard answer) = 0
+due_made device (Failed failed) = same_device device failed
+
+-- no more is left after a job
+pub record WorkFalls (places : NamedPlaces) (task now : Task) : Type 0 where
+  pub turns : turns_of_task places now ≤ turns_of_task places task
+  pub makes : makes_in now ≤ makes_in task
+  pub draws : draws_in now ≤ draws_in task
+  pub lists : lists_in now ≤ lists_in task
+
+-- a call leaves fewer turns, each directory that it removed counting for one, and less to come
+pub record CallFalls (before after : NamedPlaces) (call : Call) (made : Made) (task then : Task) : Type 0 where
+  pub turns : turns_of_task after then + (cost_made call made).makes
+      < turns_of_task before task + (cost_made call made).takes
+  pub makes : makes_in then + (cost_made call made).makes ≤ makes_in task
+  pub draws : draws_in then + (cost_made call made).draws ≤ draws_in task
+  pub lists : lists_in then + lists_made call made ≤ lists_in task
+
+work-none : (places : NamedPlaces) (task : Task) → WorkFalls places task task
+work-none places task = record { turns = omega arith; makes = omega arith; draws = omega arith; lists = omega arith }
+
+pub work-falls : (ground : Ground) (began : Began) (places : NamedPlaces) (task now : Task) (job : Option Job)
+    → Worked ground began task now job → WorkFalls places task now
+work-falls ground began places task now None worked =
+    subst (WorkFalls places task) (sym worked) (work-none places task)
+work-falls ground began places (Using task) now (Some job) worked =
+    let leads = worked.1.leads in
+    let falls = leads.falls in
+    let makes = leads.makes in
+    let draws = leads.draws in
+    subst (WorkFalls places (Using task)) (sym worked.0) (record {
+      turns = omega (arith, falls);
+      makes = omega (arith, makes);
+      draws = omega (arith, draws);
+      lists = omega arith;
+    })
+work-falls ground began places (Recovers recovery) now (Some job) worked = absurd worked
+work-falls ground began places (Refusal reply) now (Some job) worked = absurd worked
+work-falls ground began places (Fault device held) now (Some job) worked = absurd worked
+
+-- what is left of a user's task after a call that was done
+record UserFalls (task then : UserTask) (cost : Cost) : Type 0 where
+  turns : (rest_of then).left + cost.makes < (rest_of task).left + cost.takes
+  makes : (rest_of then).makes + cost.makes ≤ (rest_of task).makes
+  draws : (rest_of then).draws + cost.draws ≤ (rest_of task).draws
+
+module _ (before after : Seen) (store : IsStore before.store) (task : UserTask) (scene : Scene)
+    (change : Option LocalChange) (answer : Answer) (whole : HearsWhole (Heard answer)) where
+  user-falls : (call : Call) → scene.share.vault.entries ≡ before.store.entries
+      → CallStands tasks task scene call change → Does before after call answer
+      → UserFalls task (tasks.after task answer) (cost_of call)
+  user-falls (OpCall owner op names) same stands does =
+      subst (λ a. UserFalls task (tasks.after task a) (cost_of (OpCall owner op names))) (sym does.0) (record {
+        turns = stands.leads.falls;
+        makes = stands.leads.makes;
+        draws = stands.leads.draws;
+      })
+  user-falls Sync same stands does =
+      subst (λ a. UserFalls task (tasks.after task a) no_cost) (sym does.0) (record {
+        turns = stands.leads.falls;
+        makes = stands.leads.makes;
+        draws = stands.leads.draws;
+      })
+  user-falls ListCall same stands does = absurd stands
+  user-falls (Read place) same stands does = absurd stands
+  user-falls (Generate tag app_id) same stands does =
+      let none = ap (λ es. entry_of es does.0) same ∙ not-given before.store does.0 store does.2.fresh in
+      let shows = stands.each does.0 does.2.key (whole does.0 (ap Heard does.1)) none in
+      subst (λ a. UserFalls task (tasks.after task a) (cost_of (Generate tag app_id))) (sym does.1) (record {
+        turns = shows.leads.falls;
+        makes = shows.leads.makes;
+        draws = shows.leads.draws;
+      })
+  user-falls (Encrypt blob app_id nonce key) same stands does =
+      let under = stands.1.under in
+      let found : entry_of before.store.entries blob ≡ Some under.entry = ap (λ es. entry_of es blob) (sym same)
+      ∙ under.live in
+      let heard : answer ≡ Sealed (sealed_text under.entry.key nonce key) = does.0
+      ∙ ap (λ entry. Sealed (if_there entry [] (λ e. sealed_text e.key nonce key))) found in
+      subst (λ a. UserFalls task (tasks.after task a) no_cost) (sym heard) (record {
+        turns = stands.1.leads.falls;
+        makes = stands.1.leads.makes;
+        draws = stands.1.leads.draws;
+      })
+  user-falls Entries same stands does = absurd stands
+
+-- an operation of a recovery makes no directory, since it makes nothing that its turns don't count
+makes-none : (places : NamedPlaces) (recovery : Recovery) (owner : ℕ) (op : LocalOp) (names : Option Blob)
+    → recovery_left (places_after places owner op names) recovery + adds_local op
+    < recovery_left places recovery + takes_local op
+    → adds_local op ≡ 0
+makes-none places recovery owner (Write site file bytes) names falls = refl
+makes-none places recovery owner (RenameFile site from to) names falls = refl
+makes-none places recovery owner (RenameDir from to) names falls = refl
+makes-none places recovery owner (RemoveFile site file) names falls = refl
+makes-none places recovery owner (RemoveDir site) names falls = refl
+makes-none places recovery owner (MakeDir site) names falls = absurd (by recovery falls)
+  where
+    place : Place
+    place = place_of owner site
+
+    more : map.len places ≤ map.len (map.insert places place None)
+    more =
+        subst (λ n. map.len places ≤ n) (sym (map.len-insert place_total places place None))
+        (either (is_some (map.get places place)))
+      where
+        either : (there : Bool) → map.len places ≤ cond there (map.len places) (map.len places + 1)
+        either true = omega arith
+        either false = omega arith
+
+    by : (r : Recovery) → recovery_left (places_after places owner (MakeDir site) names) r + 1
+        < recovery_left places r + 0 → ⊥
+    by Listing falls = omega (arith, falls)
+    by Sweeping falls = omega (arith, falls)
+    by (Reading count) falls = omega (arith, falls, more)
+    by Settled falls = omega (arith, falls)
+    by Listed falls = omega (arith, falls)
+
+-- what a recovery may list while it has a call to make, and once a call was done
+lists-before : (places : NamedPlaces) (recovery : Recovery) → 1 < recovery_left places recovery
+    → lists_in (Recovers recovery) ≡ max_places
+lists-before places Listing lasts = refl
+lists-before places Sweeping lasts = refl
+lists-before places (Reading count) lasts = refl
+lists-before places Settled lasts = refl
+lists-before places Listed lasts = absurd (omega (arith, lasts))
+
+lists-few : (recovery : Recovery) → lists_in (Recovers recovery) ≤ max_places
+lists-few Listing = omega arith
+lists-few Sweeping = omega arith
+lists-few (Reading count) = omega arith
+lists-few Settled = omega arith
+lists-few Listed = omega arith
+
+module _ (before after : NamedPlaces) (recovery : Recovery) (answer : Answer)
+    (lasts : 1 < recovery_left before recovery) where
+  -- a call that was done on these places, costs no entry and makes no directory
+  comes-falls : (call : Call) (places : NamedPlaces) → after ≡ places
+      → recovery_left places (recovery_after call recovery) + (cost_of call).makes
+      < recovery_left before recovery + (cost_of call).takes
+      → (cost_of call).makes ≡ 0 → (cost_of call).draws ≡ 0
+      → lists_in (Recovers (recovery_after call recovery)) + lists_done call ≤ max_places
+      → CallFalls before after call (Heard answer) (Recovers recovery) (Recovers (recovery_after call recovery))
+  comes-falls call places is falls makes draws lists = record {
+    turns =
+        subst (λ ps. recovery_left ps (recovery_after call recovery) + (cost_of call).makes
+        < recovery_left before recovery + (cost_of call).takes) (sym is) falls;
+    makes = omega (arith, makes);
+    draws = omega (arith, draws);
+    lists = let most = lists-before before recovery lasts in omega (arith, lists, most);
   }
-  call-falls call change (Recovers recovery) (Recovers then) shows = record {
-    no_fault = λ e. cc;
-    falls = shows.2;
-    lasts = shows.3;
-  }
-  call-falls call change (Using task) (Recovers then) shows = absurd shows
-  call-falls call change (Using task) (Refusal then) shows = absurd shows
-  call-falls call change (Using task) Fault shows = absurd shows
-  call-falls call change (Recovers recovery) (Using then) shows = absurd shows
-  call-falls call change (Recovers recovery) (Refusal then) shows = absurd shows
-  call-falls call change (Recovers recovery) Fault shows = absurd shows
-  call-falls call change (Refusal reply) then shows = absurd shows
-  call-falls call change Fault then shows = absurd shows
 
-  -- that the device failed is told only where it was due
-  pub reply-told : (reply : Reply) (task : Task) → TaskStands ground task began
-      → TaskShows ground began task (ReplyNext reply)
-      → reply ≡ TreeFault → task ≡ Fault
-  reply-told reply (Using task) stands shows is = absurd (success_fault (sym shows.success ∙ ap kind_of_reply is))
+module _ (book : Plain) (after : Seen) (recovery : Recovery) (answer : Answer)
+    (lasts : 1 < recovery_left book.bench.places recovery) where
+  recovery-falls : (call : Call) → RecoveryCalls (ground_of book) recovery call → Does book.bench after call answer
+      → CallFalls book.bench.places after.places call (Heard answer) (Recovers recovery)
+      (Recovers (recovery_after call recovery))
+  recovery-falls (OpCall owner op names) shows does =
+      comes-falls book.bench.places after.places recovery answer lasts (OpCall owner op names)
+      (places_after book.bench.places owner op names) (ap (λ b. b.places) does.1) shows.comes.falls
+      (makes-none book.bench.places recovery owner op names shows.comes.falls) refl
+      (let few = lists-few recovery in omega (arith, few))
+  recovery-falls Sync shows does =
+      comes-falls book.bench.places after.places recovery answer lasts Sync book.bench.places
+      (ap (λ b. b.places) does.1) shows.falls refl refl (omega arith)
+  recovery-falls ListCall shows does =
+      comes-falls book.bench.places after.places recovery answer lasts ListCall after.places refl
+      (shows after.places does.1).falls refl refl (omega arith)
+  recovery-falls (Read place) shows does =
+      comes-falls book.bench.places after.places recovery answer lasts (Read place)
+      (with_read (ground_of book) place).places (ap (λ b. b.places) does.1) shows.1.falls refl refl
+      (let few = lists-few (recovery_after (Read place) recovery) in omega (arith, few))
+  recovery-falls (Generate tag app_id) shows does = absurd shows
+  recovery-falls (Encrypt blob app_id nonce key) shows does = absurd shows
+  recovery-falls Entries shows does =
+      comes-falls book.bench.places after.places recovery answer lasts Entries book.bench.places
+      (ap (λ b. b.places) does.1.2) (shows.comes does.1.0 does.1.1).falls refl refl (omega arith)
+
+-- a call that failed leaves one turn, in which this is told
+failed-falls : (before after : NamedPlaces) (call : Call) (device : Device) (held : Held) (task : Task)
+    → 1 < turns_of_task before task → 2 ≤ lists_in task
+    → CallFalls before after call (Failed device) task (Fault device held)
+failed-falls before after call device held task lasts lists = record {
+  turns = omega (arith, lasts);
+  makes = omega arith;
+  draws = omega arith;
+  lists = omega (arith, lists);
+}
+
+module _ (book : Plain) (began : Began) (call : Call) (change : Option LocalChange) where
+  -- a task that makes a call has a turn more, and may list what it holds
+  pub call-lasts : (task : Task) → TaskShows (ground_of book) began task (CallNext call change)
+      → (1 < turns_of_task book.bench.places task) × (2 ≤ lists_in task)
+  call-lasts (Using task) shows = (shows.lasts, omega arith)
+  call-lasts (Recovers recovery) shows =
+      let most = lists-before book.bench.places recovery shows.2 in (shows.2, omega (arith, most))
+  call-lasts (Refusal reply) shows = cc
+  call-lasts (Fault device held) shows = cc
+
+  module _ (after : Seen) (store : IsStore book.bench.store) where
+    heard-falls : (answer : Answer) (task then : Task) → HearsWhole (Heard answer)
+        → TaskShows (ground_of book) began task (CallNext call change) → Does book.bench after call answer
+        → then ≡ task_heard call answer task
+        → CallFalls book.bench.places after.places call (Heard answer) task then
+    heard-falls answer (Using task) then whole shows does is =
+        let falls = user-falls book.bench after store task (scene_of (user_of task) (ground_of book) began) change
+        answer whole call refl shows.stands does in
+        let none = lists-none (scene_of (user_of task) (ground_of book) began) task call shows.stands in
+        subst (CallFalls book.bench.places after.places call (Heard answer) (Using task)) (sym is) (record {
+          turns = falls.turns;
+          makes = falls.makes;
+          draws = falls.draws;
+          lists = omega (arith, none);
+        })
+      where
+        lists-none : (scene : Scene) (task : UserTask) (c : Call) → CallStands tasks task scene c change
+            → lists_done c ≡ 0
+        lists-none scene task (OpCall owner op names) stands = refl
+        lists-none scene task Sync stands = refl
+        lists-none scene task ListCall stands = absurd stands
+        lists-none scene task (Read place) stands = absurd stands
+        lists-none scene task (Generate tag app_id) stands = refl
+        lists-none scene task (Encrypt blob app_id nonce key) stands = refl
+        lists-none scene task Entries stands = absurd stands
+    heard-falls answer (Recovers recovery) then whole shows does is =
+        subst (CallFalls book.bench.places after.places call (Heard answer) (Recovers recovery)) (sym is)
+        (recovery-falls book after recovery answer shows.2 call shows.1 does)
+    heard-falls answer (Refusal reply) then whole shows does is = cc
+    heard-falls answer (Fault device held) then whole shows does is = cc
+
+    -- fewer turns are left after a call, and less is to come
+    pub task-falls : (made : Made) (task then : Task) → HearsWhole made
+        → TaskShows (ground_of book) began task (CallNext call change) → IsMade book.bench after call (Ok made)
+        → TaskAfter call made task then → CallFalls book.bench.places after.places call made task then
+    task-falls (Heard answer) task then whole shows is_made is =
+        heard-falls answer task then whole shows is_made is
+    task-falls (Failed device) task then whole shows is_made is =
+        let lasts = call-lasts task shows in
+        subst (CallFalls book.bench.places after.places call (Failed device) task) (sym is.is)
+        (failed-falls book.bench.places after.places call device is.blobs task lasts.0 lasts.1)
+
+  -- that a device failed is due only where it failed
+  pub due-after : (made : Made) (task then : Task) (device : Device)
+      → TaskShows (ground_of book) began task (CallNext call change) → TaskAfter call made task then
+      → due_in device then ≡ due_made device made
+  due-after (Heard answer) (Using task) then device shows is = ap (due_in device) is
+  due-after (Heard answer) (Recovers recovery) then device shows is = ap (due_in device) is
+  due-after (Heard answer) (Refusal reply) then device shows is = cc
+  due-after (Heard answer) (Fault failed held) then device shows is = cc
+  due-after (Failed failed) task then device shows is = ap (due_in device) is.is
+
+-- a call that the actor's command planned
+module _ (book : Plain) (actor : Actor) (it : Running) (making : Making)
+    (plans : Plans book actor it making.task (CallNext making.call making.change)) where
+  abbrev planned_began : Began
+  planned_began = plans.on.began
+
+  module _ (made : Made) (then : TaskAfter making.call made making.task making.then) where
+    -- that its device failed is due exactly where it failed
+    pub call-due : (device : Device) → due_in device making.then ≡ due_made device made
+    call-due device =
+        due-after book planned_began making.call making.change made making.task making.then device plans.shows then
+
+    module _ (after : Seen) (is_made : IsMade book.bench after making.call (Ok made)) where
+      pub call-falls : IsStore book.bench.store → HearsWhole made
+          → CallFalls book.bench.places after.places making.call made it.task making.then
+      call-falls store whole =
+          let work = work-falls (ground_of book) planned_began book.bench.places it.task making.task plans.job
+          plans.worked in
+          let call = task-falls book planned_began making.call making.change after store made making.task making.then
+          whole plans.shows is_made then in
+          let work_turns = work.turns in
+          let work_makes = work.makes in
+          let work_draws = work.draws in
+          let work_lists = work.lists in
+          let turns = call.turns in
+          let makes = call.makes in
+          let draws = call.draws in
+          let lists = call.lists in record {
+            turns = omega (arith, work_turns, turns);
+            makes = omega (arith, work_makes, makes);
+            draws = omega (arith, work_draws, draws);
+            lists = omega (arith, work_lists, lists);
+          }
+
+  pub call-told : (made : Made) → TaskAfter making.call made making.task making.then → (after : Seen)
+      → IsMade book.bench after making.call (Ok made)
+      → (was_done made ≡ false) ↔ IsFault (device_of making.call) making.then
+  call-told (Heard answer) then after is_made = (λ e. cc, λ fault. absurd (by making.task plans.shows then fault.is))
+    where
+      by : (task : Task)
+          → TaskShows (ground_of book) planned_began task (CallNext making.call making.change)
+          → making.then ≡ task_heard making.call answer task
+          → {held : Held} → making.then ≡ Fault (device_of making.call) held → ⊥
+      by (Using task) shows is {held} e = cc
+      by (Recovers recovery) shows is {held} e = cc
+      by (Refusal reply) shows is {held} e = cc
+      by (Fault device blobs) shows is {held} e = cc
+  call-told (Failed device) then after is_made = (
+    λ e. record { held = then.blobs; is = then.is ∙ ap (λ d. Fault d then.blobs) is_made.0 },
+    λ fault. refl,
+  )
+
+-- that a device failed is told only where it was due
+fault-device : (device failed : Device) → fault_of failed ≡ fault_of device → failed ≡ device
+fault-device TreeDevice TreeDevice same = refl
+fault-device TreeDevice StoreDevice same = cc
+fault-device StoreDevice TreeDevice same = cc
+fault-device StoreDevice StoreDevice same = refl
+
+fault-kind : (device : Device) → kind_of_reply (fault_of device) ≡ FaultKind
+fault-kind TreeDevice = refl
+fault-kind StoreDevice = refl
+
+pub next_reply : (reply other : Reply) → ReplyNext reply ≡ ReplyNext other → reply ≡ other
+next_reply reply other same = cc
+
+module _ (ground : Ground) (began : Began) (reply : Reply) (device : Device) where
+  task-told : (task : Task) → TaskStands ground task began → TaskShows ground began task (ReplyNext reply)
+      → reply ≡ fault_of device → IsFault device task
+  task-told (Using task) stands shows is =
+      absurd (success_fault (sym shows.success ∙ ap kind_of_reply is ∙ fault-kind device))
     where
       success_fault : Success ≡ FaultKind → ⊥
       success_fault e = cc
-  reply-told reply (Recovers recovery) stands shows is = absurd (ended_fault (sym shows.ended ∙ is))
+  task-told (Recovers recovery) stands shows is =
+      absurd (success_fault (ap kind_of_reply (sym shows.ended ∙ is) ∙ fault-kind device))
     where
-      ended_fault : Ended 0 ≡ TreeFault → ⊥
-      ended_fault e = cc
-  reply-told reply (Refusal refusal) stands shows is =
-      absurd (refusal_fault (sym stands.1 ∙ ap kind_of_reply (sym shows ∙ is)))
+      success_fault : Success ≡ FaultKind → ⊥
+      success_fault e = cc
+  task-told (Refusal refusal) stands shows is =
+      absurd (refusal_fault (sym stands.1 ∙ ap kind_of_reply (sym (next_reply reply refusal shows) ∙ is)
+      ∙ fault-kind device))
     where
       refusal_fault : RefusalKind ≡ FaultKind → ⊥
       refusal_fault e = cc
-  reply-told reply Fault stands shows is = refl
+  task-told (Fault failed held) stands shows is = record {
+    held = held;
+    is = ap (λ d. Fault d held)
+        (fault-device device failed (sym (next_reply reply (fault_of failed) shows) ∙ is));
+  }
+
+  work-told : (task now : Task) (job : Option Job) → Worked ground began task now job
+      → TaskStands ground task began → TaskShows ground began now (ReplyNext reply)
+      → reply ≡ fault_of device → IsFault device task
+  work-told task now None worked stands shows is =
+      task-told task stands (subst (λ t. TaskShows ground began t (ReplyNext reply)) worked shows) is
+  work-told (Using task) now (Some job) worked stands shows is =
+      absurd (success_fault (sym (success now worked.0 shows) ∙ ap kind_of_reply is ∙ fault-kind device))
+    where
+      success : (now : Task) → {then : UserTask} → now ≡ Using then → TaskShows ground began now (ReplyNext reply)
+          → kind_of_reply reply ≡ Success
+      success (Using then) is shows = shows.success
+      success (Recovers recovery) is shows = cc
+      success (Refusal refusal) is shows = cc
+      success (Fault failed held) is shows = cc
+
+      success_fault : Success ≡ FaultKind → ⊥
+      success_fault e = cc
+  work-told (Recovers recovery) now (Some job) worked stands shows is = absurd worked
+  work-told (Refusal refusal) now (Some job) worked stands shows is = absurd worked
+  work-told (Fault failed held) now (Some job) worked stands shows is = absurd worked
+
+task-lasts : (ground : Ground) (began : Began) (reply : Reply) (places : NamedPlaces) (task : Task)
+    → TaskShows ground began task (ReplyNext reply) → 0 < turns_of_task places task
+task-lasts ground began reply places (Using task) shows = shows.lasts
+task-lasts ground began reply places (Recovers recovery) shows = by recovery
+  where
+    by : (r : Recovery) → 0 < recovery_left places r
+    by Listing = omega arith
+    by Sweeping = omega arith
+    by (Reading count) = omega arith
+    by Settled = omega arith
+    by Listed = omega arith
+task-lasts ground began reply places (Refusal refusal) shows = omega arith
+task-lasts ground began reply places (Fault device held) shows = omega arith
+
+-- a task lists no more with its reply than was said
+pub lists-told : (task : Task) → length (lists_with task) ≤ lists_in task
+lists-told (Using task) = omega arith
+lists-told (Recovers recovery) = omega arith
+lists-told (Refusal reply) = omega arith
+lists-told (Fault device held) = both held.first held.second
+  where
+    one : (held : Option Blob) → length (option_to_list held) ≤ 1
+    one None = omega arith
+    one (Some blob) = omega arith
+
+    both : (first second : Option Blob) → length (option_to_list first ++ option_to_list second) ≤ 2
+    both first second =
+        let a = one first in
+        let b = one second in
+        omega (arith, a, b, length-append (option_to_list first) (option_to_list second))
+
+-- a reply that the actor's command planned
+module _ (book : Plain) (actor : Actor) (it : Running) (now : Task) (reply : Reply)
+    (plans : Plans book actor it now (ReplyNext reply)) where
+  pub reply-told : (device : Device) → reply ≡ fault_of device → IsFault device it.task
+  reply-told device is =
+      work-told (ground_of book) plans.on.began reply device it.task now plans.job plans.worked plans.on.stands
+      plans.shows is
 
   -- and a task that replies had a turn left
-  pub reply-lasts : (reply : Reply) (task : Task) → TaskShows ground began task (ReplyNext reply)
-      → 0 < turns_of_task task
-  reply-lasts reply (Using task) shows = shows.lasts
-  reply-lasts reply (Recovers Listing) shows = omega arith
-  reply-lasts reply (Recovers Sweeping) shows = omega arith
-  reply-lasts reply (Recovers Swept) shows = omega arith
-  reply-lasts reply (Refusal refusal) shows = omega arith
-  reply-lasts reply Fault shows = omega arith
+  pub reply-lasts : 0 < turns_of_task book.bench.places it.task
+  reply-lasts =
+      let work = work-falls (ground_of book) plans.on.began book.bench.places it.task now plans.job plans.worked in
+      let turns = work.turns in
+      let lasts = task-lasts (ground_of book) plans.on.began reply book.bench.places now plans.shows in
+      omega (arith, turns, lasts)

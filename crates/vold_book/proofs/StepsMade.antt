@@ -1,6 +1,6 @@
 -- What any task's call rests on: a step that shows what it has to may be made, its change is told rightly, and where
 -- it fails every user's world is kept.
-use Rattle.std.proofs.Common.{◌≡◌, ◌≢◌, ℕ, ◌+◌, inl, List, length, refl, sym, ap, ◌∙◌, subst, arith}
+use Rattle.std.proofs.Common.{◌≡◌, ◌≢◌, ℕ, ◌+◌, inl, [], length, refl, sym, ap, ◌∙◌, subst, arith}
 use Rattle.std.specs.Prelude.{Option, Some, None, is_some}
 use Rattle.tree_model.specs.declared.ops.Fill.TheVariants.{Bytes}
 use Rattle.tree_model.specs.declared.sites.LocalOp.{LocalOp}
@@ -13,26 +13,27 @@ use Rattle.tree_model.specs.Parts.{part_of, local_kind, LocalFits}
 use Rattle.tree_model.proofs.Parts.{kind-own}
 use Rattle.user_world.specs.declared.changes.LocalChange.{LocalChange}
 use Rattle.user_world.specs.Changes.{noted_kind}
-use Rattle.user_world.specs.Facts.{Fact, Later}
+use Rattle.user_world.specs.Facts.{Later}
 use Rattle.user_world.specs.Timelines.{Timeline, own_of, OwnWorldsStand}
 use Rattle.user_world.specs.Turns.{StepShows}
 use Rattle.user_world.proofs.Timelines.{line-failed, view-shown}
-use Rattle.key_directory.specs.Rehearsal.{rehearsal}
-use Rattle.vold_book.specs.Calls.{IsFailedOp}
+use Rattle.user_world.specs.Meaning.{Meaning}
+use Rattle.bench.specs.Bench.{Plain as Seen, IsFailedOp}
+use Rattle.bench.specs.Steps.{LeavesDisk}
 use Rattle.vold_book.specs.State.{Plain, machine_of}
 use Rattle.vold_book.specs.Whole.{Whole}
 use Rattle.vold_book.specs.Parts.{count_changes}
 use Rattle.vold_book.proofs.Tracked.{count-changes_made}
 
 -- the worlds of users stand where a call failed, and those of other users stay
-pub record Keeps (seed : List ℕ) (user : ℕ) (before after : Timeline) : Type 0 where
-  pub stands : OwnWorldsStand (rehearsal seed) after
+pub record Keeps (meaning : Meaning) (user : ℕ) (before after : Timeline) : Type 0 where
+  pub stands : OwnWorldsStand meaning after
   pub others : (other : ℕ) → other ≢ user → Later (own_of other before) (own_of other after)
 
-pub same-line : (seed : List ℕ) (user : ℕ) (line : Timeline) (disk : Disk) → OwnWorldsStand (rehearsal seed) line
-    → disk ≡ line.disk → Keeps seed user line (record line { disk = disk })
-same-line seed user line disk stands same =
-    subst (λ d. Keeps seed user line (record line { disk = d })) (sym same)
+pub same-line : (meaning : Meaning) (user : ℕ) (line : Timeline) (disk : Disk) → OwnWorldsStand meaning line
+    → disk ≡ line.disk → Keeps meaning user line (record line { disk = disk })
+same-line meaning user line disk stands same =
+    subst (λ d. Keeps meaning user line (record line { disk = d })) (sym same)
     (record { stands = stands; others = λ other differ. inl refl })
 
 is_noted : (change : Option LocalChange) → is_some (noted_kind change) ≡ is_some change
@@ -43,17 +44,17 @@ no_note : (change : Option LocalChange) → None ≡ noted_kind change → chang
 no_note None e = refl
 no_note (Some change) e = cc
 
-module _ (seed : List ℕ) (user : ℕ) (line : Timeline) (change : Option LocalChange) (next : List Fact)
-    (stands : OwnWorldsStand (rehearsal seed) line) where
+module _ (meaning : Meaning) (user : ℕ) (line : Timeline) (change : Option LocalChange)
+    (stands : OwnWorldsStand meaning line) where
   -- the device's conditions hold of the view
   pub step-fits : (op : LocalOp)
-      → StepShows (rehearsal seed) user (own_of user line) (record { op = op; note = change }) next
+      → StepShows meaning user (own_of user line) (record { op = op; note = change }) []
       → LocalFits (part_of (view line.disk) user) op
   step-fits op shows = subst (λ part. LocalFits part op) (view-shown user _ line stands.shows) shows.fits
 
   -- whether it makes a change is told rightly
   pub step-told : (op : LocalOp)
-      → StepShows (rehearsal seed) user (own_of user line) (record { op = op; note = change }) next
+      → StepShows meaning user (own_of user line) (record { op = op; note = change }) []
       → is_some change ≡ is_some (kind_of (view line.disk) (op_of user op))
   step-told op shows =
       sym (ap is_some (kind-own (view line.disk) user op
@@ -61,18 +62,28 @@ module _ (seed : List ℕ) (user : ℕ) (line : Timeline) (change : Option Local
 
   -- and where it failed
   pub step-failed : (op : LocalOp) (disk : Disk)
-      → StepShows (rehearsal seed) user (own_of user line) (record { op = op; note = change }) next
-      → IsFailedOp line.disk disk user op → Keeps seed user line (record line { disk = disk })
-  step-failed (MakeDir site) disk shows failed = same-line seed user line disk stands failed
+      → StepShows meaning user (own_of user line) (record { op = op; note = change }) []
+      → LeavesDisk line.disk disk user op → Keeps meaning user line (record line { disk = disk })
+  step-failed (MakeDir site) disk shows failed = same-line meaning user line disk stands failed
   step-failed (Write site file bytes) disk shows failed =
-      let leads = line-failed (rehearsal seed) line user (record { op = Write site file bytes; note = change }) next
+      let leads = line-failed meaning line user (record { op = Write site file bytes; note = change }) []
       (Bytes failed.0) stands shows (no_note change shows.noted) in
-      subst (λ d. Keeps seed user line (record line { disk = d })) (sym failed.1)
+      subst (λ d. Keeps meaning user line (record line { disk = d })) (sym failed.1)
       (record { stands = leads.stands; others = leads.others })
-  step-failed (RenameFile site from to) disk shows failed = same-line seed user line disk stands failed
-  step-failed (RenameDir from to) disk shows failed = same-line seed user line disk stands failed
-  step-failed (RemoveFile site file) disk shows failed = same-line seed user line disk stands failed
-  step-failed (RemoveDir site) disk shows failed = same-line seed user line disk stands failed
+  step-failed (RenameFile site from to) disk shows failed = same-line meaning user line disk stands failed
+  step-failed (RenameDir from to) disk shows failed = same-line meaning user line disk stands failed
+  step-failed (RemoveFile site file) disk shows failed = same-line meaning user line disk stands failed
+  step-failed (RemoveDir site) disk shows failed = same-line meaning user line disk stands failed
+
+-- what a failed operation leaves of the disk
+pub failed-disk : (before after : Seen) (user : ℕ) (op : LocalOp) → IsFailedOp before after user op
+    → LeavesDisk before.disk after.disk user op
+failed-disk before after user (MakeDir site) failed = ap (λ b. b.disk) failed
+failed-disk before after user (Write site file bytes) failed = (failed.0, ap (λ b. b.disk) failed.1)
+failed-disk before after user (RenameFile site from to) failed = ap (λ b. b.disk) failed
+failed-disk before after user (RenameDir from to) failed = ap (λ b. b.disk) failed
+failed-disk before after user (RemoveFile site file) failed = ap (λ b. b.disk) failed
+failed-disk before after user (RemoveDir site) failed = ap (λ b. b.disk) failed
 
 -- all changes are the durable ones and the pending ones
 pub all-changes : (book : Plain) → Whole book
@@ -81,5 +92,5 @@ all-changes book whole =
     let counted = whole.images.counted in
     let durable = whole.agrees.durable in
     let same = ap count_changes whole.agrees.pending
-    ∙ count-changes_made book.tree.disk.stable book.tree.disk.pending in
+    ∙ count-changes_made book.bench.disk.stable book.bench.disk.pending in
     omega (arith, counted, durable, same)

@@ -1,5 +1,5 @@
 -- A Book as it is opened is whole, and a stop, a restart and a command that is given out keep it whole.
-use Rattle.std.proofs.Common.{◌≡◌, ◌≢◌, ℕ, ◌+◌, ◌≤◌, ◌<◌, inl, List, [], ◌∷◌, ◌++◌}
+use Rattle.std.proofs.Common.{◌≡◌, ◌≢◌, ℕ, ◌+◌, ◌≤◌, ◌<◌, List, [], ◌∷◌, ◌++◌}
 use Rattle.std.proofs.Common.{length, refl, sym, ap, ◌∙◌, subst, arith, length-append}
 use Rattle.std.proofs.lemmas.Option.{none-some}
 use Rattle.std.specs.Prelude.{Option, Some, None, IsSomeAnd, is_some, min, unwrap_or}
@@ -29,17 +29,21 @@ use Rattle.journal_model.proofs.Steps.{machine_after-append, legal-append, begun
 use Rattle.docket.specs.Docket.{with_command as docket_with, with_first_command}
 use Rattle.docket.specs.Accounts.{Accounted}
 use Rattle.docket.proofs.Accounts.{accounted-empty, accounted-given}
-use Rattle.docket.proofs.Accounts.{accounted-given_first, accounted-same, get-stays, sum-empty}
+use Rattle.docket.proofs.Accounts.{accounted-given_first, accounted-same, get-stays}
 use Rattle.user_world.specs.Meaning.{StandsFor, UserStands}
 use Rattle.user_world.specs.Timelines.{survivors}
 use Rattle.user_world.proofs.Timelines.{line-stopped, line-still}
-use Rattle.key_directory.specs.Rehearsal.{rehearsal}
+use Rattle.keystore_model.specs.Store.{empty_store}
+use Rattle.key_directory.specs.Vaults.{sealed}
+use Rattle.user_world.specs.Meaning.{Meaning}
+use Rattle.bench.specs.Bench.{Plain as Seen, named_in}
 use Rattle.vold_book.specs.declared.tasks.Running.{Running}
-use Rattle.vold_book.specs.State.{Docket, Plain, machine_of, timeline}
+use Rattle.vold_book.specs.State.{Docket, Plain, machine_of, timeline, vault_of}
 use Rattle.vold_book.specs.Stops.{after_stop, after_restart}
-use Rattle.vold_book.specs.Turns.{new_book, opened_at, with_command}
-use Rattle.vold_book.specs.Whole.{Numbers, PhaseStands, IsCharged, Whole, max_commands, due_of}
-use Rattle.vold_book.proofs.Moves.{whole-of}
+use Rattle.vold_book.specs.Turns.{new_book, opened_at, with_command, unlisted}
+use Rattle.vold_book.specs.Recovery.{max_commands}
+use Rattle.vold_book.specs.Whole.{Numbers, PhaseStands, Whole}
+use Rattle.vold_book.proofs.Moves.{Steady, whole-of}
 use Rattle.vold_book.proofs.Numbers.{quiet-stopped, numbers-quiet, numbers-running}
 use Rattle.vold_book.proofs.Numbers.{begun-quiet, all_given-append, all_given-push}
 
@@ -48,13 +52,16 @@ module _ (book : Plain) (whole : Whole book) where
   machine = machine_of book
 
   -- a stop
-  module _ (cut : Cut) (counts : Counts) (running : book.tracker.phase ≢ Halted) where
+  module _ (cut : Cut) (running : book.tracker.phase ≢ Halted) where
     abbrev survived : ℕ
-    survived = survivors (timeline book.tree.disk machine) cut.keep
+    survived = survivors (timeline book.bench.disk machine) cut.keep
 
     abbrev halted : Plain
     halted =
-        after_stop book (record { disk = stopped book.tree.disk cut.keep cut.fills; counts = counts }) cut survived
+        after_stop book (record book.bench {
+          disk = stopped book.bench.disk cut.keep cut.fills;
+          list = unlisted book.bench.list;
+        }) cut survived
 
     abbrev machine' : Machine
     machine' = after_entry book.ledger.entries machine (Stopped survived)
@@ -62,15 +69,15 @@ module _ (book : Plain) (whole : Whole book) where
     within : survived ≤ length machine.log
     within =
         let all = whole.images.counted in
-        let front = changes_in-take book.tree.disk.stable book.tree.disk.pending
-        (min cut.keep (length book.tree.disk.pending)) in
+        let front = changes_in-take book.bench.disk.stable book.bench.disk.pending
+        (min cut.keep (length book.bench.disk.pending)) in
         omega (arith, all, front)
 
-    pub whole-stopped : IsCharged halted → Whole halted
-    whole-stopped charged =
+    pub whole-stopped : Steady halted → Whole halted
+    whole-stopped steady =
         whole-of halted machine' (machine_after-append book.ledger.entries (Stopped survived))
         (legal-append book.ledger.entries (Stopped survived) whole.legal
-        (subst (λ p. p ≢ Halted) (sym whole.agrees.phase) running, omega arith, within)) whole.short charged (record {
+        (subst (λ p. p ≢ Halted) (sym whole.agrees.phase) running, omega arith, within)) steady (record {
           agrees = record {
             phase = refl;
             boot = whole.agrees.boot;
@@ -79,7 +86,8 @@ module _ (book : Plain) (whole : Whole book) where
             pending = refl;
           };
           worlds =
-              line-stopped (rehearsal book.seed) (timeline book.tree.disk machine) cut.keep cut.fills whole.worlds;
+              line-stopped (sealed (vault_of book.seed book.bench.store)) (timeline book.bench.disk machine)
+              cut.keep cut.fills whole.worlds;
           numbers = numbers-running book.docket (book.ledger.entries ++ Stopped survived ∷ []) machine' map.empty
               (numbers-quiet book.docket book.ledger.entries machine (Stopped survived)
               (quiet-stopped survived) machine'
@@ -117,28 +125,33 @@ module _ (book : Plain) (whole : Whole book) where
       few = omega (arith, few, length-append book.docket.commands (command ∷ []));
     }
 
-    pub whole-given : Whole (with_command book command)
-    whole-given = record {
+    pub whole-given : Steady (with_command book command) → Whole (with_command book command)
+    whole-given steady = record {
       legal = whole.legal;
       agrees = whole.agrees;
-      short = whole.short;
+      short = steady.short;
+      seeded = steady.seeded;
+      store = steady.store;
+      level = steady.level;
       images = whole.images;
       worlds = whole.worlds;
       numbers = numbers-given;
       run = whole.run;
       all = whole.all;
       phase = phase-docket given refl book.tracker.phase whole.phase;
-      charged = whole.charged;
+      clean = steady.clean;
+      small = steady.small;
+      charged = steady.charged;
     }
 
   -- the machine started again
-  module _ (counts : Counts) (level : ℕ) (halted : book.tracker.phase ≡ Halted)
+  module _ (level : ℕ) (halted : book.tracker.phase ≡ Halted)
       (same_level : level ≡ book.tracker.level) (few : length book.docket.commands < max_commands) where
     abbrev entry : Entry
     entry = Restarted (book.tracker.boot + 1) level
 
     abbrev restarted : Plain
-    restarted = after_restart book (record { disk = book.tree.disk; counts = counts }) level
+    restarted = after_restart book book.bench level
 
     abbrev machine_again : Machine
     machine_again = after_entry book.ledger.entries machine entry
@@ -183,15 +196,15 @@ module _ (book : Plain) (whole : Whole book) where
       few = omega (arith, few, length-append book.docket.commands (Recover ∷ []));
     }
 
-    pub whole-restarted : IsCharged restarted → Whole restarted
-    whole-restarted charged =
+    pub whole-restarted : Steady restarted → Whole restarted
+    whole-restarted steady =
         whole-of restarted machine_again (machine_after-append book.ledger.entries entry)
         (legal-append book.ledger.entries entry whole.legal (
           whole.agrees.phase ∙ halted,
           ap (λ n. n + 1) (sym whole.agrees.boot),
           let was = whole.agrees.level in omega (arith, was, same_level),
         ))
-        whole.short charged (record {
+        steady (record {
           agrees = record {
             phase = refl;
             boot = refl;
@@ -206,27 +219,39 @@ module _ (book : Plain) (whole : Whole book) where
           phase = (was_halted.0, λ actor it at. absurd (no-runs actor it at));
         })
 
--- a Book as it is opened
-module _ (counts : Counts) (seed : List ℕ) (short : length seed ≤ 64) where
-  abbrev opened : Plain
-  opened =
-      new_book (record { disk = record { stable = map.empty; pending = [] }; counts = counts }) (opened_at counts) seed
+-- what is seen of the devices as a Book is opened
+abbrev pub opened_seen : Counts → Counts → Seen
+opened_seen tree_counts store_counts = record {
+  disk = record { stable = map.empty; pending = [] };
+  tree_counts = tree_counts;
+  store = empty_store 1;
+  store_counts = store_counts;
+  places = map.empty;
+  list = record { items = []; next = 0; promised = 0 };
+}
 
-  nothing-stands : StandsFor (rehearsal seed) map.empty (fold_changes [])
+-- a Book as it is opened
+module _ (tree_counts store_counts : Counts) (seed : List ℕ) where
+  abbrev opened : Plain
+  opened = new_book (opened_seen tree_counts store_counts) (opened_at tree_counts store_counts) seed
+
+  abbrev meaning : Meaning
+  meaning = sealed (vault_of seed (empty_store 1))
+
+  nothing-stands : StandsFor meaning map.empty (fold_changes [])
   nothing-stands = record {
-    user = λ user. subst (UserStands (rehearsal seed) map.empty user) (sym (map.get-empty nat_cmp user))
+    user = λ user. subst (UserStands meaning map.empty user) (sym (map.get-empty nat_cmp user))
         (map.get-empty place_cmp (De user));
   }
 
   none-on : (n : ℕ) (b : BeganCommand) → map.get first_machine.running n ≡ Some b → ⊥
   none-on n b at = none-some b (sym (map.get-empty nat_cmp n) ∙ at)
 
-  pub whole-opened : Whole opened
-  whole-opened =
-      whole-of opened first_machine refl tt short
-      (inl (let none = sum-empty actor_cmp due_of in omega (arith, none))) (record {
+  pub whole-opened : Steady opened → Whole opened
+  whole-opened steady =
+      whole-of opened first_machine refl tt steady (record {
         agrees = record { phase = refl; boot = refl; level = refl; durable = refl; pending = refl };
-        worlds = line-still (rehearsal seed) map.empty [] nothing-stands;
+        worlds = line-still meaning map.empty [] nothing-stands;
         numbers = record {
           accounted = accounted-empty actor_total actor_exact actor_of;
           as_given = tt;
@@ -237,6 +262,10 @@ module _ (counts : Counts) (seed : List ℕ) (short : length seed ≤ 64) where
         };
         run = λ actor it at. absurd (none-some it (sym (map.get-empty actor_cmp actor) ∙ at));
         all = λ n b at. absurd (none-on n b at);
-        phase = λ place. ap is_some (map.get-empty {X = Unit {0}} place_cmp place)
-            ∙ sym (ap is_some (map.get-empty {X = Files} place_cmp place));
+        phase = record {
+          there = λ place. ap is_some (map.get-empty {X = Option (List ℕ)} place_cmp place)
+              ∙ sym (ap is_some (map.get-empty {X = Files} place_cmp place));
+          names = λ place lasting. map.get-empty {X = Option (List ℕ)} place_cmp place
+              ∙ sym (ap named_in (map.get-empty {X = Files} place_cmp place));
+        };
       })

@@ -1,7 +1,7 @@
 -- What a Book tracks follows the calls: which pending operations make a change, and how many changes are durable.
 use Rattle.std.proofs.Common.{◌≡◌, ℕ, ◌+◌, ◌<◌, ◌≤◌, get_or, Bool, true, false, cond, zero, suc, List, [], ◌∷◌, ◌++◌}
 use Rattle.std.proofs.Common.{length, take, refl, sym, ap, ◌∙◌, arith, length-append}
-use Rattle.std.specs.Prelude.{min, is_some, Ok}
+use Rattle.std.specs.Prelude.{min, Option, is_some, Ok}
 use Rattle.std.proofs.lemmas.List.{take_more}
 use Rattle.tree_model.specs.declared.ops.Op.{Op}
 use Rattle.tree_model.specs.declared.sites.LocalOp.{LocalOp}
@@ -14,11 +14,16 @@ use Rattle.journal_model.specs.declared.entries.Change.{Change}
 use Rattle.journal_model.specs.declared.entries.Entry.{Entry}
 use Rattle.journal_model.specs.declared.entries.Entry.TheVariants.{Began, Changed, Synced, Stopped, Restarted, Replied}
 use Rattle.journal_model.specs.Machine.{Machine, after_entry, machine_from, machine_after, first_machine}
-use Rattle.user_world.specs.declared.turns.Call.{Call}
-use Rattle.user_world.specs.declared.turns.Call.TheVariants.{Op as OpCall, Sync, List as ListCall}
-use Rattle.vold_book.specs.Calls.{IsFailed, IsMade}
+use Rattle.task_turns.specs.declared.calls.Answer.{Answer}
+use Rattle.task_turns.specs.declared.calls.Call.{Call}
+use Rattle.task_turns.specs.declared.calls.Call.TheVariants.{Op as OpCall, Sync, List as ListCall, Read}
+use Rattle.task_turns.specs.declared.calls.Call.TheVariants.{Generate, Encrypt, Entries}
+use Rattle.tree_model.specs.declared.blobs.Blob.{Blob}
+use Rattle.bench.specs.declared.made.Made.{Made}
+use Rattle.bench.specs.declared.made.Made.TheVariants.{Heard, Failed}
+use Rattle.bench.specs.Bench.{Plain as Seen, Does, IsFailed, IsFailedOp, IsMade}
+use Rattle.bench.specs.Bench.{was_done}
 use Rattle.vold_book.specs.Parts.{TrackerState, changes_made, count_changes, noted}
-use Rattle.vold_book.specs.Places.{PlaceMap}
 
 pub changes_made-append : (tree : Tree) (ops : List Op) (op : Op)
     → changes_made tree (ops ++ op ∷ []) ≡ changes_made tree ops ++ is_some (kind_of (applied tree ops) op) ∷ []
@@ -55,40 +60,58 @@ count-kept disk pending keep is =
 
 -- whether a call makes a change is told rightly
 abbrev pub ChangeIsTold : Tree → Call → Bool → Type 0
-ChangeIsTold tree (OpCall user op) change = change ≡ is_some (kind_of tree (op_of user op))
+ChangeIsTold tree (OpCall user op names) change = change ≡ is_some (kind_of tree (op_of user op))
 ChangeIsTold tree call change = Unit {0}
 
-module _ (disk disk' : Disk) (tracker : TrackerState)
-    (is : tracker.pending ≡ changes_made disk.stable disk.pending) where
-  same_disk : disk' ≡ disk → tracker.pending ≡ changes_made disk'.stable disk'.pending
+module _ (before after : Seen) (tracker : TrackerState)
+    (is : tracker.pending ≡ changes_made before.disk.stable before.disk.pending) where
+  same_disk : after.disk ≡ before.disk → tracker.pending ≡ changes_made after.disk.stable after.disk.pending
   same_disk same = is ∙ ap (λ d. changes_made d.stable d.pending) (sym same)
 
-  failed-op : (user : ℕ) (op : LocalOp) → IsFailed disk disk' (OpCall user op) → (change : Bool)
-      → (noted false (OpCall user op) change tracker).pending ≡ changes_made disk'.stable disk'.pending
-  failed-op user (MakeDir site) failed change = same_disk failed
-  failed-op user (Write site file bytes) failed change =
+  failed-op : (user : ℕ) (op : LocalOp) (names : Option Blob) (change : Bool) → IsFailedOp before after user op
+      → (noted false (OpCall user op names) change tracker).pending
+      ≡ changes_made after.disk.stable after.disk.pending
+  failed-op user (MakeDir site) names change failed = same_disk (ap (λ b. b.disk) failed)
+  failed-op user (Write site file bytes) names change failed =
       ap (λ p. p ++ false ∷ []) is
-      ∙ sym (changes_made-append disk.stable disk.pending (op_of user (Write site file failed.0)))
-      ∙ ap (λ d. changes_made d.stable d.pending) (sym failed.1)
-  failed-op user (RenameFile site from to) failed change = same_disk failed
-  failed-op user (RenameDir from to) failed change = same_disk failed
-  failed-op user (RemoveFile site file) failed change = same_disk failed
-  failed-op user (RemoveDir site) failed change = same_disk failed
+      ∙ sym (changes_made-append before.disk.stable before.disk.pending (op_of user (Write site file failed.0)))
+      ∙ ap (λ b. changes_made b.disk.stable b.disk.pending) (sym failed.1)
+  failed-op user (RenameFile site from to) names change failed = same_disk (ap (λ b. b.disk) failed)
+  failed-op user (RenameDir from to) names change failed = same_disk (ap (λ b. b.disk) failed)
+  failed-op user (RemoveFile site file) names change failed = same_disk (ap (λ b. b.disk) failed)
+  failed-op user (RemoveDir site) names change failed = same_disk (ap (λ b. b.disk) failed)
+
+  done-pending : (call : Call) (answer : Answer) (change : Bool) → ChangeIsTold (view before.disk) call change
+      → Does before after call answer
+      → (noted true call change tracker).pending ≡ changes_made after.disk.stable after.disk.pending
+  done-pending (OpCall user op names) answer change told done =
+      ap (λ p. p ++ change ∷ []) is
+      ∙ ap (λ c. changes_made before.disk.stable before.disk.pending ++ c ∷ []) told
+      ∙ sym (changes_made-append before.disk.stable before.disk.pending (op_of user op))
+      ∙ ap (λ b. changes_made b.disk.stable b.disk.pending) (sym done.1)
+  done-pending Sync answer change told done = ap (λ b. changes_made b.disk.stable b.disk.pending) (sym done.1)
+  done-pending ListCall answer change told done = same_disk (ap (λ b. b.disk) done.2)
+  done-pending (Read place) answer change told done = same_disk (ap (λ b. b.disk) done.1)
+  done-pending (Generate tag app_id) answer change told done = same_disk (ap (λ b. b.disk) done.3)
+  done-pending (Encrypt blob app_id nonce key) answer change told done = same_disk (ap (λ b. b.disk) done.1)
+  done-pending Entries answer change told done = same_disk (ap (λ b. b.disk) done.1.2)
+
+  failed-pending : (call : Call) (change : Bool) → IsFailed before after call
+      → (noted false call change tracker).pending ≡ changes_made after.disk.stable after.disk.pending
+  failed-pending (OpCall user op names) change failed = failed-op user op names change failed
+  failed-pending Sync change failed = same_disk (ap (λ b. b.disk) failed)
+  failed-pending ListCall change failed = same_disk (ap (λ b. b.disk) failed)
+  failed-pending (Read place) change failed = same_disk (ap (λ b. b.disk) failed)
+  failed-pending (Generate tag app_id) change failed = same_disk (ap (λ b. b.disk) failed)
+  failed-pending (Encrypt blob app_id nonce key) change failed = same_disk (ap (λ b. b.disk) failed)
+  failed-pending Entries change failed = same_disk (ap (λ b. b.disk) failed)
 
   -- the pending operations follow a call, whether the device did it or failed
-  pub pending-noted : (places places' : PlaceMap) (call : Call) (change made : Bool)
-      → ChangeIsTold (view disk) call change
-      → IsMade disk disk' places places' call (Ok made)
-      → (noted made call change tracker).pending ≡ changes_made disk'.stable disk'.pending
-  pending-noted places places' (OpCall user op) change true told done =
-      ap (λ p. p ++ change ∷ []) is ∙ ap (λ c. changes_made disk.stable disk.pending ++ c ∷ []) told
-      ∙ sym (changes_made-append disk.stable disk.pending (op_of user op))
-      ∙ ap (λ d. changes_made d.stable d.pending) (sym done.0)
-  pending-noted places places' (OpCall user op) change false told failed = failed-op user op failed.0 change
-  pending-noted places places' Sync change true told done = ap (λ d. changes_made d.stable d.pending) (sym done.0)
-  pending-noted places places' Sync change false told failed = same_disk failed.0
-  pending-noted places places' ListCall change true told done = same_disk done.0
-  pending-noted places places' ListCall change false told failed = same_disk failed.0
+  pub pending-noted : (call : Call) (change : Bool) (made : Made) → ChangeIsTold (view before.disk) call change
+      → IsMade before after call (Ok made)
+      → (noted (was_done made) call change tracker).pending ≡ changes_made after.disk.stable after.disk.pending
+  pending-noted call change (Heard answer) told done = done-pending call answer change told done
+  pending-noted call change (Failed device) told failed = failed-pending call change failed.1
 
 -- a call leaves the phase, the boot and the level as they are
 pub record StaysTracked (before after : TrackerState) : Type 0 where
@@ -98,32 +121,47 @@ pub record StaysTracked (before after : TrackerState) : Type 0 where
 
 pub noted-stays : (made : Bool) (call : Call) (change : Bool) (tracker : TrackerState)
     → StaysTracked tracker (noted made call change tracker)
-noted-stays true (OpCall user op) change tracker = record { phase = refl; boot = refl; level = refl }
+noted-stays true (OpCall user op names) change tracker = record { phase = refl; boot = refl; level = refl }
 noted-stays true Sync change tracker = record { phase = refl; boot = refl; level = refl }
 noted-stays true ListCall change tracker = record { phase = refl; boot = refl; level = refl }
-noted-stays false (OpCall user (MakeDir site)) change tracker = record { phase = refl; boot = refl; level = refl }
-noted-stays false
-    (OpCall user (Write site file bytes)) change tracker = record { phase = refl; boot = refl; level = refl }
-noted-stays false
-    (OpCall user (RenameFile site from to)) change tracker = record { phase = refl; boot = refl; level = refl }
-noted-stays false (OpCall user (RenameDir from to)) change tracker = record { phase = refl; boot = refl; level = refl }
-noted-stays false
-    (OpCall user (RemoveFile site file)) change tracker = record { phase = refl; boot = refl; level = refl }
-noted-stays false (OpCall user (RemoveDir site)) change tracker = record { phase = refl; boot = refl; level = refl }
+noted-stays true (Read place) change tracker = record { phase = refl; boot = refl; level = refl }
+noted-stays true (Generate tag app_id) change tracker = record { phase = refl; boot = refl; level = refl }
+noted-stays true (Encrypt blob app_id nonce key) change tracker = record { phase = refl; boot = refl; level = refl }
+noted-stays true Entries change tracker = record { phase = refl; boot = refl; level = refl }
+noted-stays false (OpCall user (MakeDir site) names) change tracker =
+    record { phase = refl; boot = refl; level = refl }
+noted-stays false (OpCall user (Write site file bytes) names) change tracker =
+    record { phase = refl; boot = refl; level = refl }
+noted-stays false (OpCall user (RenameFile site from to) names) change tracker =
+    record { phase = refl; boot = refl; level = refl }
+noted-stays false (OpCall user (RenameDir from to) names) change tracker =
+    record { phase = refl; boot = refl; level = refl }
+noted-stays false (OpCall user (RemoveFile site file) names) change tracker =
+    record { phase = refl; boot = refl; level = refl }
+noted-stays false (OpCall user (RemoveDir site) names) change tracker =
+    record { phase = refl; boot = refl; level = refl }
 noted-stays false Sync change tracker = record { phase = refl; boot = refl; level = refl }
 noted-stays false ListCall change tracker = record { phase = refl; boot = refl; level = refl }
+noted-stays false (Read place) change tracker = record { phase = refl; boot = refl; level = refl }
+noted-stays false (Generate tag app_id) change tracker = record { phase = refl; boot = refl; level = refl }
+noted-stays false (Encrypt blob app_id nonce key) change tracker = record { phase = refl; boot = refl; level = refl }
+noted-stays false Entries change tracker = record { phase = refl; boot = refl; level = refl }
 
 -- a failed call leaves what is durable
 pub failed-durable : (call : Call) (change : Bool) (tracker : TrackerState)
     → (noted false call change tracker).durable ≡ tracker.durable
-failed-durable (OpCall user (MakeDir site)) change tracker = refl
-failed-durable (OpCall user (Write site file bytes)) change tracker = refl
-failed-durable (OpCall user (RenameFile site from to)) change tracker = refl
-failed-durable (OpCall user (RenameDir from to)) change tracker = refl
-failed-durable (OpCall user (RemoveFile site file)) change tracker = refl
-failed-durable (OpCall user (RemoveDir site)) change tracker = refl
+failed-durable (OpCall user (MakeDir site) names) change tracker = refl
+failed-durable (OpCall user (Write site file bytes) names) change tracker = refl
+failed-durable (OpCall user (RenameFile site from to) names) change tracker = refl
+failed-durable (OpCall user (RenameDir from to) names) change tracker = refl
+failed-durable (OpCall user (RemoveFile site file) names) change tracker = refl
+failed-durable (OpCall user (RemoveDir site) names) change tracker = refl
 failed-durable Sync change tracker = refl
 failed-durable ListCall change tracker = refl
+failed-durable (Read place) change tracker = refl
+failed-durable (Generate tag app_id) change tracker = refl
+failed-durable (Encrypt blob app_id nonce key) change tracker = refl
+failed-durable Entries change tracker = refl
 
 shorter : (n : ℕ) (changes : List Change) → length (take n changes) ≤ length changes
 shorter zero changes = omega arith

@@ -1,56 +1,81 @@
 -- A call of a user's command that shows what it has to leaves the Book what it has to be left.
-use Rattle.std.proofs.Common.{◌≡◌, ◌≢◌, ℕ, inr, true, false, refl, sym, ap, ◌∙◌, subst}
+use Rattle.std.proofs.Common.{◌≡◌, ◌≢◌, ◌⊎◌, ℕ, inl, inr, true, false, refl, sym, ap, ◌∙◌, subst}
+use Rattle.std.proofs.Common.{List, [], ◌∷◌, ◌++◌, ◌<◌, ◌^◌, length, arith}
+use Rattle.std.proofs.lemmas.List.{append-nil}
 use Rattle.std.proofs.lemmas.Option.{none-some, same_Some}
-use Rattle.std.specs.Prelude.{Option, Some, None, is_some, IsSomeAnd, IfSome}
+use Rattle.std.specs.Prelude.{Option, Some, None, is_some, IsSomeAnd, IfSome, Ok, Contains}
 use Rattle.std.specs.Cmp.{nat_cmp_total}
 use Rattle.std.specs.FinMap as map
 use Rattle.std.specs.FinMap.{nat_cmp-IsAntisymmetric}
+use Rattle.tree_model.specs.declared.blobs.Blob.{Blob}
 use Rattle.tree_model.specs.declared.sites.LocalOp.{LocalOp}
-use Rattle.tree_model.specs.Disk.{Disk, view, with_op, synced}
-use Rattle.tree_model.specs.Counted.{Counts}
-use Rattle.tree_model.specs.Sites.{op_of}
+use Rattle.tree_model.specs.declared.sites.LocalOp.TheVariants.{MakeDir, Write, RenameFile}
+use Rattle.tree_model.specs.declared.sites.LocalOp.TheVariants.{RenameDir, RemoveFile, RemoveDir}
+use Rattle.tree_model.specs.Tree.{if_there}
+use Rattle.tree_model.specs.Disk.{view, with_op, synced}
+use Rattle.deferred_delete.specs.Deferral.{noted as items_noted}
 use Rattle.tree_model.specs.Parts.{part_of, LocalFits}
+use Rattle.tree_model.specs.Sites.{op_of}
 use Rattle.tree_model.proofs.Maps.{get-insert_same, get-insert_other}
 use Rattle.journal_model.specs.declared.commands.Actor.{Actor}
 use Rattle.journal_model.specs.declared.commands.Actor.TheVariants.{Boot, User}
-use Rattle.journal_model.specs.declared.entries.Change.{Change}
 use Rattle.journal_model.specs.declared.entries.Entry.TheVariants.{Changed}
 use Rattle.journal_model.specs.declared.phase.Phase.{Phase}
-use Rattle.journal_model.specs.declared.phase.Phase.TheVariants.{Up, Down, Halted}
-use Rattle.journal_model.specs.Actor.{actor_cmp}
+use Rattle.journal_model.specs.declared.phase.Phase.TheVariants.{Up, Down}
 use Rattle.journal_model.specs.Command.{actor_of}
 use Rattle.journal_model.specs.Machine.{Machine, Running as BeganCommand, after_entry}
 use Rattle.journal_model.specs.Machine.{if_running, with_change, AllowsChange}
 use Rattle.user_world.specs.declared.changes.LocalChange.{LocalChange}
-use Rattle.user_world.specs.declared.turns.Call.{Call}
-use Rattle.user_world.specs.declared.turns.Call.TheVariants.{Op as OpCall, Sync, List as ListCall}
-use Rattle.user_world.specs.Changes.{change_of}
-use Rattle.user_world.specs.Facts.{Later, AllHold}
-use Rattle.user_world.specs.Timelines.{Timeline, own_of, line_with, settled_line, LeadsTo}
-use Rattle.user_world.specs.Turns.{Rests, StepShows, CallShows}
-use Rattle.user_world.proofs.Facts.{later-facts}
-use Rattle.user_world.proofs.Timelines.{line-quiet, line-step, line-settled, own-synced}
-use Rattle.user_tasks.specs.Scenes.{scene_of}
-use Rattle.user_tasks.specs.Tasks.{UserTask, user_of, rest_of}
-use Rattle.key_directory.specs.Rehearsal.{rehearsal}
-use Rattle.vold_book.specs.declared.recovery.Recovery.{Recovery}
-use Rattle.vold_book.specs.declared.recovery.Recovery.TheVariants.{Listing, Sweeping, Swept}
+use Rattle.user_world.specs.Changes.{change_of, if_noted}
+use Rattle.user_world.specs.Facts.{Later}
+use Rattle.user_world.specs.OwnWorlds.{Step}
+use Rattle.user_world.specs.Timelines.{Timeline, own_of, line_with, settled_line, OwnWorldsStand, LeadsTo}
+use Rattle.user_world.specs.Turns.{with_note}
+use Rattle.user_world.proofs.Timelines.{line-step, line-settled, own-synced, own-operated, view-shown, line-images}
+use Rattle.keystore_model.specs.declared.entry.StoreEntry.{StoreEntry}
+use Rattle.keystore_model.specs.declared.entry.Tag.{Tag}
+use Rattle.keystore_model.specs.Store.{Store, Differ, entry_of, IsGenerated, new_entry, generated as generated_store}
+use Rattle.keystore_model.proofs.Stores.{decide-bytes, entry-push, entry-push_other, differ-push, not-given}
+use Rattle.std.proofs.lemmas.List.Elements.{Contains-push_cases}
+use Rattle.seal_model.specs.Sealed.{sealed_text}
+use Rattle.key_directory.proofs.Lasting.{images-later}
+use Rattle.user_world.proofs.Product.{product}
+use Rattle.user_world.specs.Timelines.{world_of}
+use Rattle.keystore_model.proofs.Elements.{Contains-none, Contains-cases}
+use Rattle.key_directory.specs.Vaults.{Vault, sealed, KeepsEntry, Later as VaultLater}
+use Rattle.task_turns.specs.declared.calls.Answer.{Answer}
+use Rattle.task_turns.specs.declared.calls.Call.{Call}
+use Rattle.task_turns.specs.Shares.{AllHas, AreHeld}
+use Rattle.task_turns.specs.Turns.{Rests, AllOwned, Scene, Leads, cost_of, OpShows, SyncShows, GenerateShows}
+use Rattle.task_turns.specs.Turns.{EncryptShows}
+use Rattle.task_turns.specs.Turns.{operated, IsOwned, BlobShows, CallShows}
+use Rattle.task_turns.specs.declared.calls.Answer.TheVariants.{Done, Blob as IsBlob, Sealed}
+use Rattle.task_turns.specs.declared.calls.Call.TheVariants.{Op as OpCall, Sync, Generate, Encrypt}
+use Rattle.task_turns.specs.declared.calls.Call.TheVariants.{List as ListCall, Read, Entries}
+use Rattle.task_turns.proofs.Lasting.{facts-last}
+use Rattle.bench.specs.declared.made.Made.TheVariants.{Heard, Failed}
+use Rattle.bench.specs.Bench.{Plain as Seen, Does, Fits, IsFailed, IsFailedOp, IsMade, Rests as AllRests, places_after}
+use Rattle.bench.specs.Seen.{AnswersWhole}
+use Rattle.journal_model.specs.declared.entries.Device.{Device}
+use Rattle.bench.specs.Known.{Knows, IsLasting}
+use Rattle.user_tasks.specs.Tasks.{UserTask, tasks, user_of, rest_of}
+use Rattle.vold_book.specs.declared.tasks.Held.{Held}
 use Rattle.vold_book.specs.declared.tasks.Running.{Running}
 use Rattle.vold_book.specs.declared.tasks.Task.{Task}
 use Rattle.vold_book.specs.declared.tasks.Task.TheVariants.{User as Using, Recovery as Recovers, Refusal, Fault}
-use Rattle.vold_book.specs.Calls.{Fits, Does, IsFailed, machine_with, may_with}
-use Rattle.vold_book.specs.Parts.{Agrees}
-use Rattle.vold_book.specs.Places.{PlaceMap, KnowsPlaces, places_after}
-use Rattle.vold_book.specs.Recovery.{Ground, RecoveryRests}
-use Rattle.vold_book.specs.State.{Plain, Device, machine_of, timeline, ground_at, ground_of}
-use Rattle.vold_book.specs.Tasks.{TaskStands, RunsOn}
-use Rattle.vold_book.specs.Turns.{Called}
+use Rattle.vold_book.specs.Entries.{changed_entry, entry_of as entry_of_call, machine_with, may_with}
+use Rattle.vold_book.specs.Turns.{Making}
+use Rattle.vold_book.specs.Parts.{Agrees, changes_made, noted}
+use Rattle.vold_book.specs.State.{Plain, Ground, machine_of, timeline, ground_at, ground_of, vault_of, share_of}
+use Rattle.vold_book.specs.Tasks.{TaskStands, RunsOn, HoldsOwn, blobs_in, scene_of}
 use Rattle.vold_book.specs.Whole.{PhaseStands, Whole}
-use Rattle.vold_book.proofs.StepsMade.{Keeps, same-line, step-fits, step-told, step-failed, all-changes}
-use Rattle.vold_book.proofs.Known.{known-view, known-failed}
-use Rattle.vold_book.proofs.Moves.{After, after_of, Moves}
+use Rattle.vold_book.proofs.Moves.{After, after_of, Moves, machine_then, ground_then, holds-on}
 use Rattle.vold_book.proofs.Numbers.{IsQuiet, quiet-changed, quiet-synced}
-use Rattle.vold_book.proofs.Tracked.{ChangeIsTold, pending-noted, failed-durable, noted-stays}
+use Rattle.vold_book.proofs.StepsMade.{Keeps, same-line, step-fits, step-told, step-failed, failed-disk, all-changes}
+use Rattle.vold_book.proofs.Tracked.{ChangeIsTold, pending-noted, noted-stays, failed-durable}
+use Rattle.bench.proofs.Known.{knows-view, knows-failed}
+use Rattle.task_turns.specs.Names.{BringsBlob}
+use Rattle.user_world.specs.Meaning.{Meaning}
 
 pub not_boot : (user : ℕ) → Boot ≡ User user → ⊥
 not_boot user e = cc
@@ -58,15 +83,74 @@ not_boot user e = cc
 pub same_user : (a b : ℕ) → User a ≡ User b → a ≡ b
 same_user a b e = cc
 
--- a recovery rests on a machine that is down
-pub rests-down : (ground : Ground) (recovery : Recovery) → RecoveryRests ground recovery → ground.phase ≡ Down
-rests-down ground Listing rests = rests
-rests-down ground Sweeping rests = rests.0
-rests-down ground Swept rests = rests.0
+-- what a change of the ground leaves for commands of other users: no entry is lost, the level stays, and their own
+-- worlds stay or are settled
+pub record LeavesGround (before after : Ground) (user : ℕ) : Type 0 where
+  pub boot : after.boot ≡ before.boot
+  pub level : after.vault.level ≡ before.vault.level
+  pub seed : after.vault.seed ≡ before.vault.seed
+  pub kept : (blob : Blob) → KeepsEntry before.vault after.vault blob
+  pub others : (other : ℕ) → other ≢ user → Later (own_of other before.line) (own_of other after.line)
+
+-- a task of another user rests there still
+pub rests-still : (before after : Ground) (user : ℕ) (task : UserTask) (began : BeganCommand)
+    → LeavesGround before after user → user_of task ≢ user
+    → Rests (rest_of task) before.boot began (share_of (user_of task) before)
+    → Rests (rest_of task) after.boot began (share_of (user_of task) after)
+rests-still before after user task began leaves differ rests = record {
+  of_user = rests.of_user;
+  accepted = rests.accepted;
+  serves = subst (λ boot. (rest_of task).serves boot began) (sym leaves.boot) rests.serves;
+  facts = facts-last (rest_of task).facts (rest_of task).held _ _ (record {
+    own = leaves.others (user_of task) differ;
+    level = leaves.level;
+    seed = leaves.seed;
+    kept = λ blob is. leaves.kept blob;
+  }) rests.known rests.facts;
+  known = rests.known;
+  owned = λ blob is. let owned = rests.owned blob is in record {
+    entry = owned.entry;
+    live = leaves.kept blob owned.entry owned.live;
+    tagged = owned.tagged;
+  };
+}
+
+-- the worlds of users stand where entries were added
+worlds-later : (before after : Vault) (line : Timeline) → VaultLater before after
+    → ((blob : Blob) → KeepsEntry before after blob) → OwnWorldsStand (sealed before) line
+    → OwnWorldsStand (sealed after) line
+worlds-later before after line later kept stands = record {
+  shows = stands.shows;
+  images = (product (sealed after) (world_of line) line stands.shows).0
+      (images-later before after line.disk line.kept line.log later (λ keep left blob short is named. kept blob)
+      (line-images (sealed before) line stands));
+}
+
+-- what a failed operation leaves of the keystore
+pub failed-store : (before after : Seen) (user : ℕ) (op : LocalOp) → IsFailedOp before after user op
+    → after.store ≡ before.store
+failed-store before after user (MakeDir site) failed = ap (λ b. b.store) failed
+failed-store before after user (Write site file bytes) failed = ap (λ b. b.store) failed.1
+failed-store before after user (RenameFile site from to) failed = ap (λ b. b.store) failed
+failed-store before after user (RenameDir from to) failed = ap (λ b. b.store) failed
+failed-store before after user (RemoveFile site file) failed = ap (λ b. b.store) failed
+failed-store before after user (RemoveDir site) failed = ap (λ b. b.store) failed
+
+-- what seals a key under an entry that is found
+abbrev sealed_by : Option StoreEntry → List ℕ → List ℕ → List ℕ
+sealed_by found nonce key = if_there found [] (λ entry. sealed_text entry.key nonce key)
+
+-- an element of a list of one
+at-one : (blobs : List Blob) (blob b : Blob) → Contains blobs blob → Contains (blob ∷ []) b → Contains blobs b
+at-one blobs blob b is one = elim (Contains-cases blob [] b one) [
+  | inl same ↦ subst (Contains blobs) same is
+  | inr none ↦ absurd (Contains-none b none)
+]
 
 module _ (book : Plain) (actor : Actor) (number : ℕ) (task : UserTask) (whole : Whole book)
-    (runs : map.get book.docket.running actor ≡ Some (record { number = number; task = Using task }))
-    (on : RunsOn (ground_of book) (machine_of book) actor (record { number = number; task = Using task })) where
+    (on : RunsOn (ground_of book) (machine_of book) actor (record { number = number; task = Using task }))
+    (takes : (phase : Phase) → PhaseStands phase book (machine_of book) → book.tracker.phase ≡ phase
+    → actor ≢ Boot → phase ≡ Up) where
   abbrev user : ℕ
   user = user_of task
 
@@ -74,20 +158,14 @@ module _ (book : Plain) (actor : Actor) (number : ℕ) (task : UserTask) (whole 
   machine = machine_of book
 
   abbrev line : Timeline
-  line = timeline book.tree.disk machine
+  line = timeline book.bench.disk machine
 
-  own_actor : actor ≡ User user
+  pub own_actor : actor ≡ User user
   own_actor = sym on.own ∙ on.stands.of_user
 
   -- a user's command runs on a machine that is up
   pub user-up : book.tracker.phase ≡ Up
-  user-up = by book.tracker.phase whole.phase
-    where
-      by : (phase : Phase) → PhaseStands phase book machine → phase ≡ Up
-      by Up stands = refl
-      by Down stands = absurd (not_boot user (sym (stands.1 actor _ runs) ∙ own_actor))
-      by Halted stands =
-          absurd (none-some _ (sym (map.get-empty actor_cmp actor) ∙ ap (λ m. map.get m actor) (sym stands.2) ∙ runs))
+  user-up = takes book.tracker.phase whole.phase refl (λ boot. not_boot user (sym boot ∙ own_actor))
 
   up-not-down : machine.phase ≡ Down → ⊥
   up-not-down down = differ (sym user-up ∙ sym whole.agrees.phase ∙ down)
@@ -95,305 +173,645 @@ module _ (book : Plain) (actor : Actor) (number : ℕ) (task : UserTask) (whole 
       differ : Up ≡ Down → ⊥
       differ e = cc
 
-  known : KnowsPlaces book.places (view book.tree.disk)
+  pub known : Knows book.bench.places (view book.bench.disk)
   known = subst (λ phase. PhaseStands phase book machine) user-up whole.phase
 
-  -- the other commands stand where the other users' worlds stay or are settled
-  others-stand : (ground : Ground) → ground.seed ≡ book.seed → ground.boot ≡ machine.boot
-      → ((other : ℕ) → other ≢ user → Later (own_of other line) (own_of other ground.line))
+  -- the other commands stand
+  others-stand : (after : Ground) → LeavesGround (ground_of book) after user
       → (other : Actor) (o : Running) → other ≢ actor → map.get book.docket.running other ≡ Some o
       → (began : BeganCommand) → actor_of began.command ≡ other → TaskStands (ground_of book) o.task began
-      → TaskStands ground o.task began
-  others-stand ground seed boot later other o differ at began own stands = by o.task stands
+      → TaskStands after o.task began
+  others-stand after leaves other o differ at began own stands = by o.task stands
     where
-      by : (t : Task) → TaskStands (ground_of book) t began → TaskStands ground t began
+      by : (t : Task) → TaskStands (ground_of book) t began → TaskStands after t began
       by (Using t) rests =
           let apart : user_of t ≢ user = λ e. differ (sym own ∙ rests.of_user ∙ ap User e ∙ sym own_actor) in
-          subst (λ s. Rests (rest_of s t) ground.boot began (own_of (user_of t) ground.line)) (sym seed) (record {
-            of_user = rests.of_user;
-            accepted = rests.accepted;
-            serves = subst (λ b. (rest_of book.seed t).serves b began) (sym boot) rests.serves;
-            facts = later-facts (rest_of book.seed t).facts _ _ (later (user_of t) apart) rests.facts;
-          })
-      by (Recovers recovery) rests = absurd (up-not-down (rests-down (ground_of book) recovery rests.1))
+          rests-still (ground_of book) after user t began leaves apart rests
+      by (Recovers recovery) rests = absurd (up-not-down rests.1.0)
       by (Refusal reply) rests = rests
-      by Fault rests = rests
+      by (Fault device held) rests = rests
 
-  -- what a call leaves that leads the user's world on; a change is noted of the command
-  pub record Leads (then : UserTask) (began : BeganCommand) (after : After) : Type 0 where
-    pub line : Timeline
-    pub is_line : timeline after.tree.disk (machine_with book.ledger.entries machine after.entry) ≡ line
-    pub leads : LeadsTo (rehearsal book.seed) user (rest_of book.seed then).facts
-        (timeline book.tree.disk machine) line
-    pub boot : (machine_with book.ledger.entries machine after.entry).boot ≡ machine.boot
-    pub at : map.get (machine_with book.ledger.entries machine after.entry).running number ≡ Some began
-    pub on_machine : (n : ℕ) → n ≢ number
-        → map.get (machine_with book.ledger.entries machine after.entry).running n ≡ map.get machine.running n
+  -- what a call leaves that leads the user's task on
+  pub record LeadsOn (then : UserTask) (began : BeganCommand) (after : After) : Type 0 where
+    pub leaves : LeavesGround (ground_of book) (ground_then book after) user
+    pub worlds : OwnWorldsStand (sealed (vault_of book.seed after.bench.store))
+        (timeline after.bench.disk (machine_then book after))
+    pub facts : AllHas (rest_of then).facts (share_of user (ground_then book after))
+    pub known : AreHeld (rest_of then).held (rest_of then).facts
+    pub owned : AllOwned after.bench.store.entries user (rest_of then).held
+    pub differ : Differ (rest_of then).held
+    pub at : map.get (machine_then book after).running number ≡ Some began
+    pub on_machine : (n : ℕ) → n ≢ number → map.get (machine_then book after).running n ≡ map.get machine.running n
     pub command : began.command ≡ on.began.command
     pub verdict : began.verdict ≡ on.began.verdict
-    pub serves : (rest_of book.seed then).serves machine.boot began
-    pub same_user : (rest_of book.seed then).user ≡ user
+    pub serves : (rest_of then).serves machine.boot began
+    pub same_user : user_of then ≡ user
     pub is_task : after.task ≡ Using then
     pub may : may_with book.ledger.entries machine after.entry
     pub quiet : IfSome after.entry IsQuiet
-    pub agrees : Agrees after.tracker (machine_with book.ledger.entries machine after.entry) after.tree.disk
+    pub agrees : Agrees after.tracker (machine_then book after) after.bench.disk
     pub phase : after.tracker.phase ≡ book.tracker.phase
-    pub known : KnowsPlaces after.places (view after.tree.disk)
+    pub knows : Knows after.bench.places (view after.bench.disk)
 
-  pub leads-move : (then : UserTask) (began : BeganCommand) (after : After) → Leads then began after
-      → Moves book actor number after
-  leads-move then began after left =
-      let m = machine_with book.ledger.entries machine after.entry in
-      let line' = timeline after.tree.disk m in
-      let leads = subst (LeadsTo (rehearsal book.seed) user (rest_of book.seed then).facts line)
-      (sym left.is_line) left.leads in
-      let ground = ground_at book.seed after.tree.disk m after.places in record {
-        may = left.may;
-        quiet = left.quiet;
-        agrees = left.agrees;
-        worlds = leads.stands;
-        boot = left.boot;
-        mine = record {
-          began = began;
-          at = left.at;
-          own = ap actor_of left.command ∙ on.own;
-          stands = subst (λ t. TaskStands ground t began) (sym left.is_task) (record {
-            of_user = ap actor_of left.command ∙ on.stands.of_user ∙ ap User (sym left.same_user);
-            accepted = left.verdict ∙ on.stands.accepted;
-            serves = subst (λ b. (rest_of book.seed then).serves b began) (sym left.boot) left.serves;
-            facts =
-                subst (λ u. AllHold (rest_of book.seed then).facts (own_of u line')) (sym left.same_user) leads.rests;
+  module _ (then : UserTask) (began : BeganCommand) (after : After) (left : LeadsOn then began after) where
+    abbrev ground' : Ground
+    ground' = ground_then book after
+
+    rests-on : Rests (rest_of then) ground'.boot began (share_of (user_of then) ground')
+    rests-on = record {
+      of_user = ap actor_of left.command ∙ on.stands.of_user ∙ ap User (sym left.same_user);
+      accepted = left.verdict ∙ on.stands.accepted;
+      serves = subst (λ b. (rest_of then).serves b began) (sym left.leaves.boot) left.serves;
+      facts = subst (λ u. AllHas (rest_of then).facts (share_of u ground')) (sym left.same_user) left.facts;
+      known = left.known;
+      owned = subst (λ u. AllOwned after.bench.store.entries u (rest_of then).held) (sym left.same_user) left.owned;
+    }
+
+    pub leads-move : Moves book actor number after
+    leads-move = record {
+      may = left.may;
+      quiet = left.quiet;
+      agrees = left.agrees;
+      worlds = left.worlds;
+      boot = left.leaves.boot;
+      mine = subst (λ t. RunsOn ground' (machine_then book after) actor (record { number = number; task = t }))
+          (sym left.is_task) (record {
+            began = began;
+            at = left.at;
+            own = ap actor_of left.command ∙ on.own;
+            stands = rests-on;
+            holds = record {
+              differ = left.differ;
+              own = λ blob is. (user, own_actor, λ b one. left.owned b (at-one (rest_of then).held blob b is one));
+            };
           });
-        };
-        on_machine = left.on_machine;
-        same_command = λ b at. left.command ∙ ap (λ c. c.command) (same_Some on.began b (sym on.at ∙ at));
-        others = others-stand ground refl left.boot leads.others;
-        phase = left.phase;
-        up = λ is. left.known;
-        durable = λ down. absurd (up-not-down (whole.agrees.phase ∙ down));
-      }
+      on_machine = left.on_machine;
+      same_command = λ b at. left.command ∙ ap (λ c. c.command) (same_Some on.began b (sym on.at ∙ at));
+      others = others-stand ground' left.leaves;
+      kept = left.leaves.kept;
+      phase = left.phase;
+      up = λ is. left.knows;
+      durable = λ down. absurd (up-not-down (whole.agrees.phase ∙ down));
+    }
 
-  -- what it shows of a call
-  abbrev Shown : UserTask → Call → Option LocalChange → Type 0
-  Shown then call change =
-      CallShows (scene_of book.seed machine.boot on.began (own_of user line)) (rest_of book.seed task)
-      call change (rest_of book.seed then)
+  abbrev entries : List StoreEntry
+  entries = book.bench.store.entries
 
-  -- what a made call left
-  abbrev made_by : Device → PlaceMap → Called Device
-  made_by tree places = record { tree = tree; places = places; made = true }
+  -- what the command holds, where it holds no more than it did
+  owned-still : (then : UserTask) → ((rest_of then).held ≡ (rest_of task).held) ⊎ ((rest_of then).held ≡ [])
+      → AllOwned entries user (rest_of then).held
+  owned-still then (inl same) blob is =
+      on.stands.owned blob (subst (λ held. Contains held blob) same is)
+  owned-still then (inr none) blob is = absurd (Contains-none blob (subst (λ held. Contains held blob) none is))
 
-  abbrev operated : Counts → LocalOp → Called Device
-  operated counts op =
-      made_by (record { disk = with_op book.tree.disk (op_of user op); counts = counts })
-      (places_after book.places user op)
+  differ-still : (then : UserTask) → ((rest_of then).held ≡ (rest_of task).held) ⊎ ((rest_of then).held ≡ [])
+      → Differ (rest_of then).held
+  differ-still then (inl same) = subst Differ (sym same) on.holds.differ
+  differ-still then (inr none) = subst Differ (sym none) tt
 
-  -- an operation with no change that the device did
-  quiet-leads : (counts : Counts) (then : UserTask) (op : LocalOp) → Shown then (OpCall user op) None
-      → Leads then on.began (after_of book number (OpCall user op) None (Using then) (operated counts op))
-  quiet-leads counts then op shows = record {
-    line = record line { disk = with_op book.tree.disk (op_of user op) };
-    is_line = refl;
-    leads = line-quiet (rehearsal book.seed) line user op (rest_of book.seed then).facts whole.worlds shows.stands.1;
-    boot = refl;
-    at = on.at;
-    on_machine = λ n differ. refl;
-    command = refl;
-    verdict = refl;
-    serves = shows.serves;
-    same_user = shows.same_user;
-    is_task = refl;
-    may = tt;
-    quiet = tt;
-    agrees = record {
-      phase = whole.agrees.phase;
-      boot = whole.agrees.boot;
-      level = whole.agrees.level;
-      durable = whole.agrees.durable;
-      pending =
-          pending-noted book.tree.disk _ book.tracker whole.agrees.pending book.places _ (OpCall user op) false true
-          (step-told book.seed user line None _ whole.worlds op shows.stands.1) (refl, refl);
-    };
-    phase = refl;
-    known = known-view book.places book.tree.disk user op
-        (step-fits book.seed user line None _ whole.worlds op shows.stands.1) known;
-  }
+  abbrev scene : Scene
+  scene = scene_of user (ground_of book) on.began
 
-  -- an operation with a change
-  change-leads : (counts : Counts) (then : UserTask) (op : LocalOp) (local : LocalChange)
-      → Shown then (OpCall user op) (Some local)
-      → Leads then (with_change on.began (change_of user local))
-      (after_of book number (OpCall user op) (Some local) (Using then) (operated counts op))
-  change-leads counts then op local shows = record {
-    line = line_with line user (record { op = op; note = Some local });
-    is_line = refl;
-    leads =
-        line-step (rehearsal book.seed) line user (record { op = op; note = Some local })
-        (rest_of book.seed then).facts whole.worlds shows.stands.1;
-    boot = refl;
-    at = ap (λ m. map.get m number) on_machine
-        ∙ get-insert_same nat_cmp_total nat_cmp-IsAntisymmetric machine.running number _;
-    on_machine = λ n differ. ap (λ m. map.get m n) on_machine
-        ∙ get-insert_other nat_cmp_total nat_cmp-IsAntisymmetric machine.running number _ n differ;
-    command = refl;
-    verdict = refl;
-    serves = shows.serves;
-    same_user = shows.same_user;
-    is_task = refl;
-    may = subst (λ found. IsSomeAnd found (λ b.
-        (b.verdict ≡ None) × AllowsChange machine.boot b b.command (change_of user local))) (sym on.at)
-        (on.stands.accepted, shows.may);
-    quiet = quiet-changed number (change_of user local);
-    agrees = record {
-      phase = whole.agrees.phase;
-      boot = whole.agrees.boot;
-      level = whole.agrees.level;
-      durable = whole.agrees.durable;
-      pending =
-          pending-noted book.tree.disk _ book.tracker whole.agrees.pending book.places _ (OpCall user op) true true
-          (step-told book.seed user line (Some local) _ whole.worlds op shows.stands.1) (refl, refl);
-    };
-    phase = refl;
-    known = known-view book.places book.tree.disk user op
-        (step-fits book.seed user line (Some local) _ whole.worlds op shows.stands.1) known;
-  }
-    where
-      change : Change
-      change = change_of user local
+  abbrev heard : Answer → UserTask
+  heard answer = tasks.after task answer
 
-      on_machine : (after_entry book.ledger.entries machine (Changed number change)).running
-          ≡ map.insert machine.running number (with_change on.began change)
-      on_machine =
-          ap (λ found. if_running found machine.running
-          (λ r. map.insert machine.running number (with_change r change))) on.at
+  module _ (names : Option Blob) (op : LocalOp) (note : Option LocalChange)
+      (shows : OpShows tasks task scene user op names note) (bench : Seen)
+      (done : bench ≡ record book.bench {
+        disk = with_op book.bench.disk (op_of user op);
+        tree_counts = bench.tree_counts;
+        places = places_after book.bench.places user op names;
+      }) where
+    abbrev making : Making
+    making = record { call = OpCall user op names; change = note; task = Using task; then = Using (heard Done) }
+
+    abbrev after : After
+    after = after_of book number making (Heard Done) bench
+
+    abbrev step : Step
+    step = record { op = op; note = note }
+
+    began_with : Option LocalChange → BeganCommand
+    began_with note = with_note user on.began note
+
+    -- the log with the change, if there is one
+    log-noted : (change : Option LocalChange)
+        → (machine_with book.ledger.entries machine (changed_entry number user change)).log
+        ≡ machine.log ++ if_noted change (change_of user) []
+    log-noted None = sym (append-nil machine.log)
+    log-noted (Some change) = refl
+
+    kept-noted : (change : Option LocalChange)
+        → (machine_with book.ledger.entries machine (changed_entry number user change)).kept ≡ machine.kept
+    kept-noted None = refl
+    kept-noted (Some change) = refl
+
+    boot-noted : (change : Option LocalChange)
+        → (machine_with book.ledger.entries machine (changed_entry number user change)).boot ≡ machine.boot
+    boot-noted None = refl
+    boot-noted (Some change) = refl
+
+    is-line : timeline bench.disk (machine_then book after) ≡ line_with line user step
+    is-line = λ i. record {
+      disk = ap (λ b. b.disk) done i;
+      kept = kept-noted note i;
+      log = log-noted note i;
+    }
+
+    led : LeadsTo (sealed (vault_of book.seed book.bench.store)) user [] line (line_with line user step)
+    led = line-step (sealed (vault_of book.seed book.bench.store)) line user step [] whole.worlds shows.step
+
+    same_store : bench.store ≡ book.bench.store
+    same_store = ap (λ b. b.store) done
+
+    is-share : share_of user (ground_then book after) ≡ operated scene.share op note
+    is-share = λ i. record {
+      own = (ap (own_of user) is-line
+          ∙ own-operated (sealed (vault_of book.seed book.bench.store)) line user step whole.worlds
+          shows.step.noted) i;
+      vault = vault_of book.seed (same_store i);
+    }
+
+    at-noted : (change : Option LocalChange)
+        → map.get (machine_with book.ledger.entries machine (changed_entry number user change)).running number
+        ≡ Some (with_note user on.began change)
+    at-noted None = on.at
+    at-noted (Some change) =
+        ap (λ m. map.get m number) (running-noted change)
+        ∙ get-insert_same nat_cmp_total nat_cmp-IsAntisymmetric machine.running number _
+      where
+        running-noted : (change : LocalChange)
+            → (after_entry book.ledger.entries machine (Changed number (change_of user change))).running
+            ≡ map.insert machine.running number (with_change on.began (change_of user change))
+        running-noted change = ap (λ found. if_running found machine.running
+            (λ r. map.insert machine.running number (with_change r (change_of user change)))) on.at
+
+    on-machine : (change : Option LocalChange) (n : ℕ) → n ≢ number
+        → map.get (machine_with book.ledger.entries machine (changed_entry number user change)).running n
+        ≡ map.get machine.running n
+    on-machine None n differ = refl
+    on-machine (Some change) n differ =
+        ap (λ m. map.get m n) (ap (λ found. if_running found machine.running
+        (λ r. map.insert machine.running number (with_change r (change_of user change)))) on.at)
+        ∙ get-insert_other nat_cmp_total nat_cmp-IsAntisymmetric machine.running number _ n differ
+
+    may-noted : (change : Option LocalChange)
+        → IfSome change (λ local. AllowsChange machine.boot on.began on.began.command (change_of user local))
+        → may_with book.ledger.entries machine (changed_entry number user change)
+    may-noted None may = tt
+    may-noted (Some change) may = subst (λ found. IsSomeAnd found (λ b.
+        (b.verdict ≡ None) × AllowsChange machine.boot b b.command (change_of user change))) (sym on.at)
+        (on.stands.accepted, may)
+
+    quiet-noted : (change : Option LocalChange) → IfSome (changed_entry number user change) IsQuiet
+    quiet-noted None = tt
+    quiet-noted (Some change) = quiet-changed number (change_of user change)
+
+    same-noted : (change : Option LocalChange) → (with_note user on.began change).command ≡ on.began.command
+    same-noted None = refl
+    same-noted (Some change) = refl
+
+    verdict-noted : (change : Option LocalChange) → (with_note user on.began change).verdict ≡ on.began.verdict
+    verdict-noted None = refl
+    verdict-noted (Some change) = refl
+
+    phase-noted : (change : Option LocalChange)
+        → (machine_with book.ledger.entries machine (changed_entry number user change)).phase ≡ machine.phase
+    phase-noted None = refl
+    phase-noted (Some change) = refl
+
+    level-noted : (change : Option LocalChange)
+        → (machine_with book.ledger.entries machine (changed_entry number user change)).level ≡ machine.level
+    level-noted None = refl
+    level-noted (Some change) = refl
+
+    op-leads : IfSome note (λ local. AllowsChange machine.boot on.began on.began.command (change_of user local))
+        → LeadsOn (heard Done) (with_note user on.began note) after
+    op-leads may = record {
+      leaves = record {
+        boot = boot-noted note;
+        level = ap (λ s. s.level) same_store;
+        seed = refl;
+        kept = λ blob entry live. ap (λ s. entry_of s.entries blob) same_store ∙ live;
+        others = λ other differ. subst (λ l. Later (own_of other line) (own_of other l)) (sym is-line)
+            (led.others other differ);
+      };
+      worlds = subst (λ l. OwnWorldsStand (sealed (vault_of book.seed bench.store)) l) (sym is-line)
+          (subst (λ s. OwnWorldsStand (sealed (vault_of book.seed s)) (line_with line user step)) (sym same_store)
+          led.stands);
+      facts = subst (AllHas (rest_of (heard Done)).facts) (sym is-share) shows.leads.facts;
+      known = shows.leads.known;
+      owned = subst (λ s. AllOwned s.entries user (rest_of (heard Done)).held) (sym same_store)
+          (owned-still (heard Done) shows.held);
+      differ = differ-still (heard Done) shows.held;
+      at = at-noted note;
+      on_machine = on-machine note;
+      command = same-noted note;
+      verdict = verdict-noted note;
+      serves = shows.leads.serves;
+      same_user = shows.leads.same_user;
+      is_task = refl;
+      may = may-noted note may;
+      quiet = quiet-noted note;
+      agrees = record {
+        phase = phase-noted note ∙ whole.agrees.phase;
+        boot = boot-noted note ∙ whole.agrees.boot;
+        level = level-noted note ∙ whole.agrees.level;
+        durable = kept-noted note ∙ whole.agrees.durable;
+        pending = pending-noted book.bench bench book.tracker whole.agrees.pending (OpCall user op names)
+            (is_some note) (Heard Done)
+            (step-told (sealed (vault_of book.seed book.bench.store)) user line note whole.worlds op shows.step)
+            (refl, done);
+      };
+      phase = refl;
+      knows = subst (λ b. Knows b.places (view b.disk)) (sym done)
+          (knows-view IsLasting (λ user lasting. lasting tt) book.bench.places book.bench.disk user op names known
+          (step-fits (sealed (vault_of book.seed book.bench.store)) user line note whole.worlds op shows.step)
+          (subst (λ part. BringsBlob part op names) (view-shown user _ line whole.worlds.shows) shows.brings));
+    }
+
+    pub op-moves : IfSome note (λ local. AllowsChange machine.boot on.began on.began.command (change_of user local))
+        → Moves book actor number after
+    op-moves may = leads-move (heard Done) (with_note user on.began note) after (op-leads may)
 
   -- a sync
-  sync-leads : (counts : Counts) (then : UserTask) → Shown then Sync None
-      → Leads then on.began (after_of book number Sync None (Using then)
-      (made_by (record { disk = synced book.tree.disk; counts = counts }) book.places))
-  sync-leads counts then shows = record {
-    line = settled_line line;
-    is_line = refl;
-    leads = record {
-      stands = line-settled (rehearsal book.seed) line whole.worlds;
-      rests =
-          subst (AllHold (rest_of book.seed then).facts)
-          (sym (own-synced (rehearsal book.seed) line user whole.worlds))
-          shows.stands.1;
-      others = λ other differ. inr (own-synced (rehearsal book.seed) line other whole.worlds);
-    };
-    boot = refl;
-    at = on.at;
-    on_machine = λ n differ. refl;
-    command = refl;
-    verdict = refl;
-    serves = shows.serves;
-    same_user = shows.same_user;
-    is_task = refl;
-    may = (number, subst (λ found. IsSomeAnd found (λ b. b.verdict ≡ None)) (sym on.at) on.stands.accepted);
-    quiet = quiet-synced;
-    agrees = record {
-      phase = whole.agrees.phase;
-      boot = whole.agrees.boot;
-      level = whole.agrees.level;
-      durable = all-changes book whole;
-      pending = refl;
-    };
-    phase = refl;
-    known = known;
-  }
+  module _ (shows : SyncShows tasks task scene None) (bench : Seen) (done : bench ≡ record book.bench {
+    disk = synced book.bench.disk;
+    tree_counts = bench.tree_counts;
+    list = record book.bench.list { items = items_noted book.bench.list.items };
+  }) where
+    abbrev sync_after : After
+    sync_after = after_of book number
+        (record { call = Sync; change = None; task = Using task; then = Using (heard Done) }) (Heard Done) bench
+
+    sync-line : timeline bench.disk (machine_then book sync_after) ≡ settled_line line
+    sync-line = ap (λ b. timeline b.disk (machine_then book sync_after)) done
+
+    abbrev meaning : Meaning
+    meaning = sealed (vault_of book.seed book.bench.store)
+
+    sync-leads : LeadsOn (heard Done) on.began sync_after
+    sync-leads = record {
+      leaves = record {
+        boot = refl;
+        level = ap (λ b. b.store.level) done;
+        seed = refl;
+        kept = λ blob entry live. ap (λ b. entry_of b.store.entries blob) done ∙ live;
+        others = λ other differ. inr (ap (own_of other) sync-line ∙ own-synced meaning line other whole.worlds);
+      };
+      worlds = subst (λ l. OwnWorldsStand (sealed (vault_of book.seed bench.store)) l) (sym sync-line)
+          (subst (λ b. OwnWorldsStand (sealed (vault_of book.seed b.store)) (settled_line line)) (sym done)
+          (line-settled meaning line whole.worlds));
+      facts = subst (AllHas (rest_of (heard Done)).facts) (sym (λ i. record {
+        own = (ap (own_of user) sync-line ∙ own-synced meaning line user whole.worlds) i;
+        vault = vault_of book.seed (ap (λ b. b.store) done i);
+      })) shows.leads.facts;
+      known = shows.leads.known;
+      owned = subst (λ b. AllOwned b.store.entries user (rest_of (heard Done)).held) (sym done)
+          (owned-still (heard Done) (inl shows.held));
+      differ = differ-still (heard Done) (inl shows.held);
+      at = on.at;
+      on_machine = λ n differ. refl;
+      command = refl;
+      verdict = refl;
+      serves = shows.leads.serves;
+      same_user = shows.leads.same_user;
+      is_task = refl;
+      may = (number, subst (λ found. IsSomeAnd found (λ b. b.verdict ≡ None)) (sym on.at) on.stands.accepted);
+      quiet = quiet-synced;
+      agrees = record {
+        phase = whole.agrees.phase;
+        boot = whole.agrees.boot;
+        level = whole.agrees.level;
+        durable = all-changes book whole;
+        pending = ap (λ b. changes_made b.disk.stable b.disk.pending) (sym done);
+      };
+      phase = refl;
+      knows = subst (λ b. Knows b.places (view b.disk)) (sym done) known;
+    }
+
+    pub sync-moves : Moves book actor number sync_after
+    sync-moves = leads-move (heard Done) on.began sync_after sync-leads
+
+  -- what a call with no change leaves that was done
+  abbrev heard_after : Call → Answer → Seen → After
+  heard_after call answer bench = after_of book number
+      (record { call = call; change = None; task = Using task; then = Using (heard answer) }) (Heard answer) bench
+
+  -- a call of the keystore leaves the disk, the places and the list
+  module _ (call : Call) (answer : Answer) (bench : Seen) (store : Store)
+      (same : bench ≡ record book.bench { store = store; store_counts = bench.store_counts })
+      (plain : noted true call false book.tracker ≡ book.tracker)
+      (none : entry_of_call number call None ≡ None) where
+    abbrev store_after : After
+    store_after = heard_after call answer bench
+
+    pub record StoreLeads : Type 0 where
+      pub level : store.level ≡ book.bench.store.level
+      pub kept : (blob : Blob) → KeepsEntry (vault_of book.seed book.bench.store) (vault_of book.seed store) blob
+      pub worlds : OwnWorldsStand (sealed (vault_of book.seed store)) line
+      pub leads : Leads tasks task answer scene None (cost_of call)
+          (record { own = own_of user line; vault = vault_of book.seed store })
+      pub owned : AllOwned store.entries user (rest_of (heard answer)).held
+      pub differ : Differ (rest_of (heard answer)).held
+
+    module _ (led : StoreLeads) where
+      same-machine : machine_then book store_after ≡ machine
+      same-machine = ap (machine_with book.ledger.entries machine) none
+
+      line-same : timeline bench.disk (machine_then book store_after) ≡ line
+      line-same = λ i. timeline (ap (λ b. b.disk) same i) (same-machine i)
+
+      store-leads : LeadsOn (heard answer) on.began store_after
+      store-leads = record {
+        leaves = record {
+          boot = ap (λ m. m.boot) same-machine;
+          level = ap (λ b. b.store.level) same ∙ led.level;
+          seed = refl;
+          kept = λ blob entry live.
+              ap (λ b. entry_of b.store.entries blob) same ∙ led.kept blob entry live;
+          others = λ other differ. inl (ap (own_of other) line-same);
+        };
+        worlds = subst (λ l. OwnWorldsStand (sealed (vault_of book.seed bench.store)) l) (sym line-same)
+            (subst (λ b. OwnWorldsStand (sealed (vault_of book.seed b.store)) line) (sym same) led.worlds);
+        facts = subst (AllHas (rest_of (heard answer)).facts) (sym (λ i. record {
+          own = ap (own_of user) line-same i;
+          vault = vault_of book.seed (ap (λ b. b.store) same i);
+        })) led.leads.facts;
+        known = led.leads.known;
+        owned = subst (λ b. AllOwned b.store.entries user (rest_of (heard answer)).held) (sym same) led.owned;
+        differ = led.differ;
+        at = ap (λ m. map.get m.running number) same-machine ∙ on.at;
+        on_machine = λ n differ. ap (λ m. map.get m.running n) same-machine;
+        command = refl;
+        verdict = refl;
+        serves = led.leads.serves;
+        same_user = led.leads.same_user;
+        is_task = refl;
+        may = subst (may_with book.ledger.entries machine) (sym none) tt;
+        quiet = subst (λ entry. IfSome entry IsQuiet) (sym none) tt;
+        agrees = record {
+          phase = ap (λ m. m.phase) same-machine ∙ whole.agrees.phase ∙ sym (ap (λ t. t.phase) plain);
+          boot = ap (λ m. m.boot) same-machine ∙ whole.agrees.boot ∙ sym (ap (λ t. t.boot) plain);
+          level = ap (λ m. m.level) same-machine ∙ whole.agrees.level ∙ sym (ap (λ t. t.level) plain);
+          durable = ap (λ m. m.kept) same-machine ∙ whole.agrees.durable ∙ sym (ap (λ t. t.durable) plain);
+          pending = ap (λ t. t.pending) plain ∙ whole.agrees.pending
+              ∙ ap (λ b. changes_made b.disk.stable b.disk.pending) (sym same);
+        };
+        phase = ap (λ t. t.phase) plain;
+        knows = subst (λ b. Knows b.places (view b.disk)) (sym same) known;
+      }
+
+      pub store-moves : Moves book actor number store_after
+      store-moves = leads-move (heard answer) on.began store_after store-leads
+
+  -- an entry is made
+  module _ (tag : Tag) (app_id : List ℕ) (blob : Blob) (bench : Seen)
+      (shows : GenerateShows tasks task scene tag app_id None) (long : length blob ≡ 32)
+      (generated : IsGenerated book.bench.store bench.store tag app_id blob) where
+    abbrev then_store : Store
+    then_store = generated_store book.bench.store blob tag app_id generated.key
+
+    none : entry_of entries blob ≡ None
+    none = not-given book.bench.store blob whole.store generated.fresh
+
+    abbrev made_vault : Vault
+    made_vault = vault_of book.seed then_store
+
+    kept : (b : Blob) → KeepsEntry (vault_of book.seed book.bench.store) made_vault b
+    kept b entry live = elim (decide-bytes b blob) [
+      | inl same ↦ absurd (none-some entry (sym none ∙ sym (ap (entry_of entries) same) ∙ live))
+      | inr differ ↦ entry-push_other entries _ b differ ∙ live
+    ]
+
+    abbrev each : BlobShows tasks task scene tag app_id blob generated.key
+    each = shows.each blob generated.key long none
+
+    not-held : ¬ (Contains (rest_of task).held blob)
+    not-held is = let owned = on.stands.owned blob is in none-some owned.entry (sym none ∙ owned.live)
+
+    owned-now : AllOwned then_store.entries user ((rest_of task).held ++ blob ∷ [])
+    owned-now b is = elim (Contains-push_cases (rest_of task).held blob b is) [
+      | inl before ↦ let owned = on.stands.owned b before in record {
+        entry = owned.entry;
+        live = kept b owned.entry owned.live;
+        tagged = owned.tagged;
+      }
+      | inr same ↦ subst (λ c. IsOwned then_store.entries user c) same (record {
+        entry = new_entry book.bench.store blob tag app_id generated.key;
+        live = entry-push entries _ none;
+        tagged = shows.tagged;
+      })
+    ]
+
+    generate-leads : (same : bench ≡ record book.bench { store = then_store; store_counts = bench.store_counts })
+        → StoreLeads (Generate tag app_id) (IsBlob blob) bench then_store same refl refl
+    generate-leads same = record {
+      level = refl;
+      kept = kept;
+      worlds = worlds-later (vault_of book.seed book.bench.store) made_vault line (record {
+        level = omega arith;
+        seed = refl;
+        attempts = λ u. record { additions = λ a is. is; secrets = λ a is. is };
+      }) kept whole.worlds;
+      leads = each.leads;
+      owned = subst (AllOwned then_store.entries user) (sym each.held) owned-now;
+      differ = subst Differ (sym each.held) (differ-push (rest_of task).held blob on.holds.differ not-held);
+    }
+
+    pub generate-moves : bench ≡ record book.bench { store = bench.store; store_counts = bench.store_counts }
+        → Moves book actor number (heard_after (Generate tag app_id) (IsBlob blob) bench)
+    generate-moves same =
+        let now : bench ≡ record book.bench { store = then_store; store_counts = bench.store_counts } =
+        same ∙ ap (λ s. record book.bench { store = s; store_counts = bench.store_counts }) generated.made in
+        store-moves (Generate tag app_id) (IsBlob blob) bench then_store now refl refl (generate-leads now)
+
+  -- a key is sealed
+  pub encrypt-moves : (blob : Blob) (app_id nonce key : List ℕ) (bench : Seen)
+      → (shows : EncryptShows tasks task scene blob app_id nonce key)
+      → bench ≡ record book.bench { store_counts = bench.store_counts }
+      → Moves book actor number (heard_after (Encrypt blob app_id nonce key)
+      (Sealed (sealed_text shows.under.entry.key nonce key)) bench)
+  encrypt-moves blob app_id nonce key bench shows same =
+      let answer = Sealed (sealed_text shows.under.entry.key nonce key) in
+      store-moves (Encrypt blob app_id nonce key) answer bench book.bench.store same refl refl (record {
+        level = refl;
+        kept = λ b entry live. live;
+        worlds = whole.worlds;
+        leads = shows.leads;
+        owned = owned-still (heard answer) (inl shows.held);
+        differ = differ-still (heard answer) (inl shows.held);
+      })
+
+  -- a call of the task with a change or none, and what it is after
+  abbrev making_of : Call → Option LocalChange → Answer → Making
+  making_of call change answer =
+      record { call = call; change = change; task = Using task; then = Using (heard answer) }
 
   -- a call that the device did
-  pub user-made : (counts : Counts) (call : Call) (change : Option LocalChange) (then : UserTask) (disk : Disk)
-      (places : PlaceMap) → Shown then call change → Does book.tree.disk disk book.places places call
-      → Moves book actor number (after_of book number call change (Using then)
-      (made_by (record { disk = disk; counts = counts }) places))
-  user-made counts (OpCall owner op) change then disk places shows done =
-      subst (λ u. Shown then (OpCall u op) change → Does book.tree.disk disk book.places places (OpCall u op)
-      → Moves book actor number (after_of book number (OpCall u op) change (Using then)
-      (made_by (record { disk = disk; counts = counts }) places))) (sym shows.stands.0)
-      (λ shows done. subst (λ d. Moves book actor number (after_of book number (OpCall user op) change (Using then)
-      (made_by (record { disk = d; counts = counts }) places))) (sym done.0)
-      (subst (λ p. Moves book actor number (after_of book number (OpCall user op) change (Using then)
-      (made_by (record { disk = with_op book.tree.disk (op_of user op); counts = counts }) p))) (sym done.1)
-      (own change shows))) shows done
-    where
-      own : (change : Option LocalChange) → Shown then (OpCall user op) change
-          → Moves book actor number (after_of book number (OpCall user op) change (Using then) (operated counts op))
-      own None shows = leads-move then on.began _ (quiet-leads counts then op shows)
-      own (Some local) shows =
-          leads-move then (with_change on.began (change_of user local)) _ (change-leads counts then op local shows)
-  user-made counts Sync change then disk places shows done =
-      subst (λ c. Shown then Sync c → Moves book actor number (after_of book number Sync c (Using then)
-      (made_by (record { disk = disk; counts = counts }) places))) (sym shows.stands.0)
-      (λ shows. subst (λ d. Moves book actor number (after_of book number Sync None (Using then)
-      (made_by (record { disk = d; counts = counts }) places))) (sym done.0)
-      (subst (λ p. Moves book actor number (after_of book number Sync None (Using then)
-      (made_by (record { disk = synced book.tree.disk; counts = counts }) p))) (sym done.1)
-      (leads-move then on.began _ (sync-leads counts then shows)))) shows
-  user-made counts ListCall change then disk places shows done = absurd shows.stands
+  pub user-done : (call : Call) (change : Option LocalChange) (answer : Answer) (bench : Seen)
+      → CallShows tasks task scene call change → AnswersWhole (Ok (Heard answer)) → Does book.bench bench call answer
+      → Moves book actor number (after_of book number (making_of call change answer) (Heard answer) bench)
+  user-done (OpCall owner op names) change answer bench shows whole_blob does =
+      subst (λ a. Moves book actor number
+      (after_of book number (making_of (OpCall owner op names) change a) (Heard a) bench)) (sym does.0)
+      (subst (λ u. OpShows tasks task scene u op names change → bench ≡ record book.bench {
+        disk = with_op book.bench.disk (op_of u op);
+        tree_counts = bench.tree_counts;
+        places = places_after book.bench.places u op names;
+      } → Moves book actor number (after_of book number (making_of (OpCall u op names) change Done) (Heard Done)
+      bench))
+      (sym shows.stands.mine) (λ stands done. op-moves names op change stands bench done shows.may)
+      shows.stands does.1)
+  user-done Sync change answer bench shows whole_blob does =
+      subst (λ a. Moves book actor number (after_of book number (making_of Sync change a) (Heard a) bench))
+      (sym does.0)
+      (subst (λ c. SyncShows tasks task scene c
+      → Moves book actor number (after_of book number (making_of Sync c Done) (Heard Done) bench))
+      (sym shows.stands.quiet) (λ stands. sync-moves stands bench does.1) shows.stands)
+  user-done (Generate tag app_id) change answer bench shows whole_blob does =
+      subst (λ c. GenerateShows tasks task scene tag app_id c
+      → Moves book actor number (after_of book number (making_of (Generate tag app_id) c answer) (Heard answer) bench))
+      (sym shows.stands.quiet)
+      (λ stands. subst (λ a. Moves book actor number
+      (after_of book number (making_of (Generate tag app_id) None a) (Heard a) bench)) (sym does.1)
+      (generate-moves tag app_id does.0 bench stands
+      (subst (λ a. AnswersWhole (Ok (Heard a))) does.1 whole_blob) does.2 does.3)) shows.stands
+  user-done (Encrypt blob app_id nonce key) change answer bench shows whole_blob does =
+      subst (λ c. Moves book actor number
+      (after_of book number (making_of (Encrypt blob app_id nonce key) c answer) (Heard answer) bench))
+      (sym shows.stands.0)
+      (subst (λ a. Moves book actor number
+      (after_of book number (making_of (Encrypt blob app_id nonce key) None a) (Heard a) bench))
+      (sym (does.0 ∙ ap (λ found. Sealed (sealed_by found nonce key)) shows.stands.1.under.live))
+      (encrypt-moves blob app_id nonce key bench shows.stands.1 does.1))
+  user-done ListCall change answer bench shows whole_blob does = absurd shows.stands
+  user-done (Read place) change answer bench shows whole_blob does = absurd shows.stands
+  user-done Entries change answer bench shows whole_blob does = absurd shows.stands
 
-  -- and one that failed, which is told next
-  pub user-failed : (counts : Counts) (call : Call) (change : Option LocalChange) (then : UserTask) (disk : Disk)
-      → Shown then call change → IsFailed book.tree.disk disk call
-      → Moves book actor number (after_of book number call change (Using then)
-      (record { tree = record { disk = disk; counts = counts }; places = book.places; made = false }))
-  user-failed counts call change then disk shows failed =
-      let keeps = failed-keeps call change shows failed in
-      let stays = noted-stays false call (is_some change) book.tracker in
-      let ground = ground_at book.seed disk machine book.places in record {
-        may = tt;
-        quiet = tt;
-        agrees = record {
-          phase = whole.agrees.phase ∙ sym stays.phase;
-          boot = whole.agrees.boot ∙ sym stays.boot;
-          level = whole.agrees.level ∙ sym stays.level;
-          durable = whole.agrees.durable ∙ sym (failed-durable call (is_some change) book.tracker);
-          pending = pending-noted book.tree.disk disk book.tracker whole.agrees.pending book.places book.places call
-              (is_some change) false (told call change shows) (failed, refl);
-        };
-        worlds = keeps.stands;
-        boot = refl;
-        mine = record { began = on.began; at = on.at; own = on.own; stands = on.stands.accepted };
-        on_machine = λ n differ. refl;
-        same_command = λ b at. ap (λ c. c.command) (same_Some on.began b (sym on.at ∙ at));
-        others = others-stand ground refl refl keeps.others;
-        phase = stays.phase;
-        up = λ is. failed-known call change shows failed;
-        durable = λ down. absurd (up-not-down (whole.agrees.phase ∙ down));
-      }
-    where
-      told : (call : Call) (change : Option LocalChange) → Shown then call change
-          → ChangeIsTold (view book.tree.disk) call (is_some change)
-      told (OpCall owner op) change shows =
-          subst (λ u. StepShows (rehearsal book.seed) user (own_of user line) (record { op = op; note = change })
-          (rest_of book.seed then).facts → ChangeIsTold (view book.tree.disk) (OpCall u op) (is_some change))
-          (sym shows.stands.0) (step-told book.seed user line change _ whole.worlds op) shows.stands.1
-      told Sync change shows = tt
-      told ListCall change shows = tt
+  -- the task may hear what the device answered
+  pub user-hears : (call : Call) (change : Option LocalChange) (answer : Answer) (bench : Seen)
+      → CallShows tasks task scene call change → AnswersWhole (Ok (Heard answer)) → Does book.bench bench call answer
+      → tasks.hears task answer
+  user-hears (OpCall owner op names) change answer bench shows long does =
+      subst (tasks.hears task) (sym does.0) shows.stands.leads.hears
+  user-hears Sync change answer bench shows long does =
+      subst (tasks.hears task) (sym does.0) shows.stands.leads.hears
+  user-hears (Generate tag app_id) change answer bench shows long does =
+      subst (tasks.hears task) (sym does.1) (shows.stands.each does.0 does.2.key
+      (subst (λ a. AnswersWhole (Ok (Heard a))) does.1 long)
+      (not-given book.bench.store does.0 whole.store does.2.fresh)).leads.hears
+  user-hears (Encrypt blob app_id nonce key) change answer bench shows long does =
+      subst (tasks.hears task)
+      (sym (does.0 ∙ ap (λ found. Sealed (sealed_by found nonce key)) shows.stands.1.under.live))
+      shows.stands.1.leads.hears
+  user-hears ListCall change answer bench shows long does = absurd shows.stands
+  user-hears (Read place) change answer bench shows long does = absurd shows.stands
+  user-hears Entries change answer bench shows long does = absurd shows.stands
 
-      failed-keeps : (call : Call) (change : Option LocalChange) → Shown then call change
-          → IsFailed book.tree.disk disk call → Keeps book.seed user line (record line { disk = disk })
-      failed-keeps (OpCall owner op) change shows failed =
-          step-failed book.seed user line change _ whole.worlds op disk shows.stands.1
-          (subst (λ u. IsFailed book.tree.disk disk (OpCall u op)) shows.stands.0 failed)
-      failed-keeps Sync change shows failed = same-line book.seed user line disk whole.worlds failed
-      failed-keeps ListCall change shows failed = absurd shows.stands
+  -- what a failed call leaves: nothing but the disk and the counts differs, and every world is kept
+  module _ (change : Option LocalChange) (bench : Seen) where
+    abbrev line' : Timeline
+    line' = timeline bench.disk machine
 
-      failed-known : (call : Call) (change : Option LocalChange) → Shown then call change
-          → IsFailed book.tree.disk disk call → KnowsPlaces book.places (view disk)
-      failed-known (OpCall owner op) change shows failed =
-          known-failed book.places book.tree.disk disk owner op
-          (subst (λ u. LocalFits (part_of (view book.tree.disk) u) op) (sym shows.stands.0)
-          (step-fits book.seed user line change _ whole.worlds op shows.stands.1)) failed known
-      failed-known Sync change shows failed = subst (λ d. KnowsPlaces book.places (view d)) (sym failed) known
-      failed-known ListCall change shows failed = absurd shows.stands
+    abbrev vault : Vault
+    vault = vault_of book.seed book.bench.store
 
-  -- the device's conditions hold
-  pub user-fits : (call : Call) (change : Option LocalChange) (then : UserTask) → Shown then call change
-      → Fits (view book.tree.disk) call
-  user-fits (OpCall owner op) change then shows =
-      subst (λ u. LocalFits (part_of (view book.tree.disk) u) op) (sym shows.stands.0)
-      (step-fits book.seed user line change _ whole.worlds op shows.stands.1)
-  user-fits Sync change then shows = tt
-  user-fits ListCall change then shows = tt
+    record Spares (call : Call) : Type 0 where
+      store : bench.store ≡ book.bench.store
+      keeps : Keeps (sealed vault) user line line'
+      told : ChangeIsTold (view book.bench.disk) call (is_some change)
+      knows : Knows bench.places (view bench.disk)
+
+    spares-op : (op : LocalOp) (names : Option Blob) → OpShows tasks task scene user op names change
+        → IsFailedOp book.bench bench user op → Spares (OpCall user op names)
+    spares-op op names shows failed = record {
+      store = failed-store book.bench bench user op failed;
+      keeps = step-failed (sealed vault) user line change whole.worlds op bench.disk shows.step
+          (failed-disk book.bench bench user op failed);
+      told = step-told (sealed vault) user line change whole.worlds op shows.step;
+      knows = knows-failed IsLasting (λ u lasting. lasting tt) book.bench bench known user op names
+          (step-fits (sealed vault) user line change whole.worlds op shows.step)
+          (subst (λ part. BringsBlob part op names) (view-shown user _ line whole.worlds.shows) shows.brings) failed;
+    }
+
+    spares-same : (call : Call) → ChangeIsTold (view book.bench.disk) call (is_some change)
+        → AllRests book.bench bench → Spares call
+    spares-same call told rests = record {
+      store = ap (λ b. b.store) rests;
+      keeps = same-line (sealed vault) user line bench.disk whole.worlds (ap (λ b. b.disk) rests);
+      told = told;
+      knows = subst (λ b. Knows b.places (view b.disk)) (sym rests) known;
+    }
+
+    spares : (call : Call) → CallShows tasks task scene call change → IsFailed book.bench bench call → Spares call
+    spares (OpCall owner op names) shows failed =
+        subst (λ u. OpShows tasks task scene u op names change → IsFailedOp book.bench bench u op
+        → Spares (OpCall u op names)) (sym shows.stands.mine) (spares-op op names) shows.stands failed
+    spares Sync shows failed = spares-same Sync tt failed
+    spares (Generate tag app_id) shows failed = spares-same (Generate tag app_id) tt failed
+    spares (Encrypt blob app_id nonce key) shows failed = spares-same (Encrypt blob app_id nonce key) tt failed
+    spares ListCall shows failed = absurd shows.stands
+    spares (Read place) shows failed = absurd shows.stands
+    spares Entries shows failed = absurd shows.stands
+
+    -- a call that failed, which is told next
+    pub user-failed : (call : Call) (device : Device) (held : Held) → CallShows tasks task scene call change
+        → IsMade book.bench bench call (Ok (Failed device)) → blobs_in held ≡ (rest_of task).held
+        → Moves book actor number (after_of book number
+        (record { call = call; change = change; task = Using task; then = Fault device held }) (Failed device) bench)
+    user-failed call device held shows made all =
+        let spared = spares call shows made.1 in
+        let stays = noted-stays false call (is_some change) book.tracker in
+        let ground' = ground_at book.seed bench machine in
+        let leaves : LeavesGround (ground_of book) ground' user = record {
+          boot = refl;
+          level = ap (λ s. s.level) spared.store;
+          seed = refl;
+          kept = λ blob entry live. ap (λ s. entry_of s.entries blob) spared.store ∙ live;
+          others = spared.keeps.others;
+        } in record {
+          may = tt;
+          quiet = tt;
+          agrees = record {
+            phase = whole.agrees.phase ∙ sym stays.phase;
+            boot = whole.agrees.boot ∙ sym stays.boot;
+            level = whole.agrees.level ∙ sym stays.level;
+            durable = whole.agrees.durable ∙ sym (failed-durable call (is_some change) book.tracker);
+            pending = pending-noted book.bench bench book.tracker whole.agrees.pending call (is_some change)
+                (Failed device) spared.told made;
+          };
+          worlds = subst (λ s. OwnWorldsStand (sealed (vault_of book.seed s)) line') (sym spared.store)
+              spared.keeps.stands;
+          boot = refl;
+          mine = record {
+            began = on.began;
+            at = on.at;
+            own = on.own;
+            stands = on.stands.accepted;
+            holds = subst (HoldsOwn ground' actor) (sym all)
+                (holds-on (ground_of book) ground' actor (rest_of task).held leaves.kept on.holds);
+          };
+          on_machine = λ n differ. refl;
+          same_command = λ b at. ap (λ c. c.command) (same_Some on.began b (sym on.at ∙ at));
+          others = others-stand ground' leaves;
+          kept = leaves.kept;
+          phase = stays.phase;
+          up = λ is. spared.knows;
+          durable = λ down. absurd (up-not-down (whole.agrees.phase ∙ down));
+        }
+
+  -- the devices' conditions hold, where the blobs given are few
+  pub user-fits : (call : Call) (change : Option LocalChange) → CallShows tasks task scene call change
+      → length book.bench.store.given < 2 ^ 63 → Fits book.bench call
+  user-fits (OpCall owner op names) change shows few =
+      subst (λ u. LocalFits (part_of (view book.bench.disk) u) op) (sym shows.stands.mine)
+      (step-fits (sealed (vault_of book.seed book.bench.store)) user line change whole.worlds op shows.stands.step)
+  user-fits Sync change shows few = tt
+  user-fits (Generate tag app_id) change shows few = few
+  user-fits (Encrypt blob app_id nonce key) change shows few =
+      let under = shows.stands.1.under in
+      record { entry = under.entry; found = under.live; bound = under.bound; current = under.current }
+  user-fits ListCall change shows few = absurd shows.stands
+  user-fits (Read place) change shows few = absurd shows.stands
+  user-fits Entries change shows few = absurd shows.stands

@@ -1,34 +1,31 @@
 -- What a turn that goes did: one call or one reply, for an actor that has something to do, with fewer turns left.
-use Rattle.std.proofs.Common.{◌≡◌, ◌≢◌, ◌<◌, inl, inr, Bool, true, false, refl, sym, ap, ◌∙◌, subst, arith}
+use Rattle.std.proofs.Common.{◌≡◌, ◌<◌, inl, inr, Bool, true, false, refl, sym, ap, ◌∙◌, subst}
 use Rattle.std.proofs.lemmas.Option.{none-some}
-use Rattle.std.specs.Prelude.{◌↔◌, Option, Some, None, is_some, IsNone}
+use Rattle.std.specs.Prelude.{Option, Some, None, is_some, Ok}
 use Rattle.std.specs.FinMap as map
-use Rattle.tree_model.specs.Disk.{Disk, view}
-use Rattle.tree_model.specs.Counted.{Counts}
-use Rattle.tree_model.specs.Touch.{SameFor}
 use Rattle.journal_model.specs.declared.commands.Actor.{Actor}
 use Rattle.journal_model.specs.declared.phase.Phase.{Phase}
 use Rattle.journal_model.specs.declared.phase.Phase.TheVariants.{Up, Down, Halted}
 use Rattle.journal_model.specs.Actor.{actor_cmp}
 use Rattle.journal_model.specs.Machine.{TakesTurn}
-use Rattle.journal_model.specs.Refusals.{refusal_of}
-use Rattle.docket.specs.Docket.{begun_by}
-use Rattle.user_world.specs.declared.turns.Call.{Call}
+use Rattle.task_turns.specs.declared.calls.Call.{Call}
+use Rattle.bench.specs.declared.made.Made.{Made}
+use Rattle.bench.specs.declared.made.Made.TheVariants.{Heard, Failed}
+use Rattle.bench.specs.Bench.{BenchState, Senses, AreCounted, device_of, was_done, told_of}
 use Rattle.vold_book.specs.declared.tasks.Running.{Running}
-use Rattle.vold_book.specs.declared.tasks.Task.{Task}
-use Rattle.vold_book.specs.declared.tasks.Task.TheVariants.{Fault}
-use Rattle.vold_book.specs.Calls.{entry_of}
+use Rattle.vold_book.specs.Entries.{entry_of, made_entry}
 use Rattle.vold_book.specs.Parts.{TrackerState, noted}
-use Rattle.vold_book.specs.State.{BookState, Plain, Device, seen, machine_of, ground_of}
+use Rattle.vold_book.specs.State.{BookState, Plain, seen, machine_of}
 use Rattle.vold_book.specs.Steps.{CallsOn, RepliesOn, GoesOn}
-use Rattle.vold_book.specs.Turns.{Begins, facts_in, Called, task_after, made_entry, after_call, CallsOnce}
-use Rattle.vold_book.specs.Turns.{RepliesOnce, Goes, LeavesOthers}
+use Rattle.vold_book.specs.Turns.{after_call, CallsOnce, RepliesOnce, Turns, Goes, LeavesOthers, as_told}
+use Rattle.vold_book.specs.Turns.{ComesUp, IsTidied}
 use Rattle.vold_book.specs.Whole.{PhaseStands, Whole, IsWhole, turns_left}
-use Rattle.vold_book.proofs.Books.{plan-fits}
+use Rattle.vold_book.proofs.Called.{call-fits, hears-whole}
 use Rattle.vold_book.proofs.Charged.{noted-entry}
-use Rattle.vold_book.proofs.Falls.{begun-falls, called-falls, replied-falls}
-use Rattle.vold_book.proofs.Isolated.{same-tree, call-isolates}
-use Rattle.vold_book.proofs.Shown.{call-falls, reply-told, reply-lasts}
+use Rattle.vold_book.proofs.Falls.{called-falls, replied-falls}
+use Rattle.vold_book.proofs.Isolated.{spare-same, call-isolates}
+use Rattle.vold_book.proofs.Replied.{replied-up}
+use Rattle.vold_book.proofs.Shown.{call-falls, call-told, reply-told, reply-lasts}
 use Rattle.vold_book.proofs.Tracked.{noted-stays}
 
 -- the machine takes the turns of what runs
@@ -53,105 +50,104 @@ tracked made call change tracker =
     let now = noted made call change tracker in
     λ i. record now { phase = stays.phase i; boot = stays.boot i; level = stays.level i }
 
-fault-iff : (made : Bool) (then : Task) → then ≢ Fault → (made ≡ false) ↔ (task_after made then ≡ Fault)
-fault-iff true then differ = (λ e. absurd (no_true e), λ is. absurd (differ is))
-  where
-    no_true : true ≡ false → ⊥
-    no_true e = cc
-fault-iff false then differ = (λ e. refl, λ is. refl)
+no_entry : (made : Made) (entry : Option _) → was_done made ≡ false → made_entry made entry ≡ None
+no_entry (Heard answer) entry e = cc
+no_entry (Failed device) entry e = refl
 
-no_entry : (made : Bool) (entry : Option _) → made ≡ false → made_entry made entry ≡ None
-no_entry made entry e = ap (λ m. made_entry m entry) e
+as-told : (made : Made) → told_of (Ok made) ≡ as_told (was_done made)
+as-told (Heard answer) = refl
+as-told (Failed device) = refl
 
-module _ {D : Type 0} (disk : D → Disk) (counts : D → Counts) (before after : BookState D) (actor : Actor)
-    (whole : IsWhole disk counts before) where
+module _ {D E : Type 0} (senses : Senses D E) (before after : BookState (BenchState D E)) (actor : Actor)
+    (whole : IsWhole senses before) where
   abbrev plain : Plain
-  plain = seen disk counts before
+  plain = seen senses before
 
-  module _ (it : Running) where
-    calls-once : CallsOn disk counts before after actor it → CallsOnce counts before after actor
-    calls-once calls =
-        let call = calls.call in
-        let called = calls.makes.called in
-        let entry = made_entry called.made (entry_of it.number call calls.change) in
-        let shows = call-falls
-        (ground_of plain) calls.plans.on.began call calls.change it.task calls.then calls.plans.shows in
-        subst (λ b. CallsOnce counts before b actor) (sym calls.makes.state) (record {
-          it = it;
-          made = called.made;
-          entry = entry;
-          task = task_after called.made calls.then;
-          runs = calls.plans.runs;
-          counted = calls.makes.counted;
-          noted = noted-entry called.made it.number call calls.change;
-          quiet = no_entry called.made (entry_of it.number call calls.change);
-          fault = fault-iff called.made calls.then shows.no_fault;
-          state =
-              ap (λ t. record (after_call before actor it.number call calls.change calls.then called) { tracker = t })
-              (tracked called.made call (is_some calls.change) before.tracker);
-        })
+  calls-once : CallsOn senses before after actor → CallsOnce senses before after actor
+  calls-once calls =
+      let making = calls.making in
+      let made = calls.makes.made in
+      let state = calls.makes.state in
+      let called = after_call before actor calls.it.number making made after.bench in
+      let now : called.tracker ≡ after.tracker = sym (ap (λ b. b.tracker) state) in record {
+        it = calls.it;
+        device = device_of making.call;
+        made = was_done made;
+        entry = made_entry made (entry_of calls.it.number making.call making.change);
+        task = making.then;
+        runs = calls.plans.runs;
+        counted = subst (AreCounted plain.bench (seen senses after).bench (device_of making.call)) (as-told made)
+            calls.makes.counted;
+        noted = noted-entry made calls.it.number making.call making.change;
+        quiet = no_entry made (entry_of calls.it.number making.call making.change);
+        fault = call-told plain actor calls.it making calls.plans made calls.makes.then (seen senses after).bench
+            calls.makes.is_made;
+        state = state ∙ ap (λ t. record called { tracker = t })
+            (tracked (was_done made) making.call (is_some making.change) before.tracker
+            ∙ ap (λ t. record before.tracker { durable = t.durable; pending = t.pending }) now);
+      }
 
-    replies-once : RepliesOn disk counts before after actor it → RepliesOnce before after actor
-    replies-once replies = record {
-      it = it;
-      command = replies.replies.command;
-      reply = replies.reply;
-      runs = replies.plans.runs;
-      given = replies.replies.given;
-      told =
-          reply-told (ground_of plain) replies.plans.on.began replies.reply it.task replies.plans.on.stands
-          replies.plans.shows;
-      state = replies.replies.state;
-    }
+  replies-once : RepliesOn senses before after actor → RepliesOnce before after actor
+  replies-once replies = record {
+    it = replies.it;
+    command = replies.replies.command;
+    reply = replies.reply;
+    runs = replies.plans.runs;
+    given = replies.replies.given;
+    told = reply-told plain actor replies.it replies.now replies.reply replies.plans;
+    state = replies.replies.state;
+  }
 
-    -- so the turn went
-    pub goes-once : map.get before.docket.running actor ≡ Some it → GoesOn disk counts before after actor it
-        → Goes counts before after actor
-    goes-once runs goes = record {
-      turn = elim goes [
-        | inl calls ↦ inr (inl (calls-once calls))
-        | inr replies ↦ inr (inr (replies-once replies))
-      ];
-      busy = λ idle. some_none it (sym (ap is_some runs) ∙ idle.0);
-      takes = runs-takes plain actor it whole runs;
-    }
-      where
-        some_none : (it : Running) → true ≡ false → ⊥
-        some_none it e = cc
+  busy-goes : (it : Running) → map.get before.docket.running actor ≡ Some it
+      → Turns senses before after actor → Goes senses before after actor
+  busy-goes it runs turn = record {
+    turn = turn;
+    busy = λ idle. some_none (sym (ap is_some runs) ∙ idle.0);
+    takes = runs-takes plain actor it whole runs;
+  }
+    where
+      some_none : true ≡ false → ⊥
+      some_none e = cc
 
-    pub goes-isolates : GoesOn disk counts before after actor it → LeavesOthers disk before after actor
-    goes-isolates (inl calls) owner user own differ =
-        let called = calls.makes.called in
-        subst (λ t. SameFor user (view (disk before.tree)) (view (disk t))) (sym (ap (λ b. b.tree) calls.makes.state))
-        (call-isolates plain actor owner user own differ it calls.call calls.change calls.then
-        (record { disk = disk called.tree; counts = counts called.tree }) called.places called.made
-        calls.plans calls.makes.is_made)
-    goes-isolates (inr replies) owner user own differ =
-        same-tree user (view (disk before.tree)) (view (disk after.tree))
-        (ap (λ b. view (disk b.tree)) replies.replies.state)
+  -- so the turn went
+  pub goes-once : GoesOn senses before after actor → Goes senses before after actor
+  goes-once (inl calls) = busy-goes calls.it calls.plans.runs (inr (inl (calls-once calls)))
+  goes-once (inr replies) = busy-goes replies.it replies.plans.runs (inr (inr (replies-once replies)))
 
-    pub goes-falls : GoesOn disk counts before after actor it → turns_left disk after < turns_left disk before
-    goes-falls (inl calls) =
-        let called : Called Device = record {
-          tree = record { disk = disk calls.makes.called.tree; counts = counts calls.makes.called.tree };
-          places = calls.makes.called.places;
-          made = calls.makes.called.made;
-        } in
-        let shows = call-falls
-        (ground_of plain) calls.plans.on.began calls.call calls.change it.task calls.then calls.plans.shows in
-        let fewer = called-falls plain actor it calls.plans.runs calls.call calls.then called shows
-        (plan-fits disk counts before whole actor it calls.call calls.change calls.then calls.plans)
-        calls.makes.is_made in
-        subst (λ b. turns_left disk b < turns_left disk before) (sym calls.makes.state) (omega (arith, fewer))
-    goes-falls (inr replies) =
-        let fewer = replied-falls plain actor it replies.plans.runs
-        (reply-lasts (ground_of plain) replies.plans.on.began replies.reply it.task replies.plans.shows) in
-        subst (λ b. turns_left disk b < turns_left disk before) (sym replies.replies.state) (omega (arith, fewer))
+  -- and left what other users have
+  pub goes-isolates : GoesOn senses before after actor → LeavesOthers plain (seen senses after) actor
+  goes-isolates (inl calls) owner user own differ =
+      let spare = call-isolates plain actor owner user own differ calls.it calls.making.task calls.making.call
+      calls.making.change calls.makes.made (seen senses after).bench calls.plans calls.makes.is_made in
+      (spare.places, spare.entries)
+  goes-isolates (inr replies) owner user own differ =
+      let spare = spare-same user plain.bench (seen senses after).bench
+      (ap (λ b. senses.disk b.bench.tree) replies.replies.state)
+      (ap (λ b. senses.store b.bench.store) replies.replies.state) in (spare.places, spare.entries)
 
-  pub begins-falls : IsNone (map.get before.docket.running actor) → Begins before after actor
-      → turns_left disk after < turns_left disk before
-  begins-falls idle begins =
-      subst (λ b. turns_left disk b < turns_left disk before) (sym begins.state)
-      (begun-falls plain actor begins.number begins.numbers begins.command
-      (record { boot = before.tracker.boot; index = begun_by before.docket actor })
-      (refusal_of begins.command (facts_in before begins.command)) begins.task idle begins.queued begins.first)
+  -- with fewer turns left
+  pub goes-falls : GoesOn senses before after actor → turns_left (seen senses after) < turns_left plain
+  goes-falls (inl calls) =
+      let bench = (seen senses after).bench in
+      subst (λ b. turns_left b < turns_left plain) (sym (ap (seen senses) calls.makes.state))
+      (called-falls plain whole actor calls.it calls.plans.runs calls.making calls.makes.made bench
+      (call-falls plain actor calls.it calls.making calls.plans calls.makes.made calls.makes.then bench
+      calls.makes.is_made whole.store (hears-whole calls.makes.made calls.makes.answers))
+      (call-fits plain actor calls.it calls.making whole calls.plans) calls.makes.is_made)
+  goes-falls (inr replies) =
+      subst (λ b. turns_left b < turns_left plain) (sym (ap (seen senses) replies.replies.state))
+      (replied-falls plain whole actor replies.it replies.plans.runs replies.replies.command replies.reply
+      (reply-lasts plain actor replies.it replies.now replies.reply replies.plans))
+
+  -- a call leaves the phase
+  call-stays : CallsOn senses before after actor → after.tracker.phase ≡ before.tracker.phase
+  call-stays calls = ap (λ b. b.tracker.phase) calls.makes.state
+      ∙ (noted-stays (was_done calls.makes.made) calls.making.call (is_some calls.making.change) before.tracker).phase
+
+  -- a machine comes up with a recovery's reply alone
+  pub goes-up : GoesOn senses before after actor → ComesUp plain (seen senses after)
+  goes-up (inl calls) down up = absurd (down (sym (call-stays calls) ∙ up))
+  goes-up (inr replies) down up =
+      subst IsTidied (sym (ap (seen senses) replies.replies.state))
+      (replied-up plain actor replies.it replies.now replies.reply whole replies.plans replies.replies.command
+      replies.replies.given down (sym (ap (λ b. b.tracker.phase) replies.replies.state) ∙ up))

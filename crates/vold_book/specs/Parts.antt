@@ -10,8 +10,8 @@ use Rattle.journal_model.specs.declared.entries.Order.{Order}
 use Rattle.journal_model.specs.declared.phase.Phase.{Phase}
 use Rattle.journal_model.specs.declared.phase.Phase.TheVariants.{Up}
 use Rattle.journal_model.specs.Machine.{Machine}
-use Rattle.user_world.specs.declared.turns.Call.{Call}
-use Rattle.user_world.specs.declared.turns.Call.TheVariants.{Op as OpCall, Sync, List as ListCall}
+use Rattle.task_turns.specs.declared.calls.Call.{Call}
+use Rattle.task_turns.specs.declared.calls.Call.TheVariants.{Op as OpCall, Sync}
 
 pub record LedgerState : Type 0 where
   pub entries : List Entry
@@ -66,14 +66,15 @@ count_changes (change ∷ changes) = cond change 1 0 + count_changes changes
 
 -- after a call that the device did: its operation is pending, or all is durable
 abbrev pub noted_made : Call → Bool → TrackerState → TrackerState
-noted_made (OpCall user op) change tracker = record tracker { pending = tracker.pending ++ change ∷ [] }
+noted_made (OpCall user op names) change tracker = record tracker { pending = tracker.pending ++ change ∷ [] }
 noted_made Sync change tracker =
     record tracker { durable = tracker.durable + count_changes tracker.pending; pending = [] }
-noted_made ListCall change tracker = tracker
+noted_made call change tracker = tracker
 
 -- after one that it didn't: a failed write is pending too, with other bytes
 abbrev pub noted_failed : Call → TrackerState → TrackerState
-noted_failed (OpCall user (Write site file bytes)) tracker = record tracker { pending = tracker.pending ++ false ∷ [] }
+noted_failed (OpCall user (Write site file bytes) names) tracker =
+    record tracker { pending = tracker.pending ++ false ∷ [] }
 noted_failed call tracker = tracker
 
 abbrev pub noted : Bool → Call → Bool → TrackerState → TrackerState

@@ -1,11 +1,11 @@
 -- Where a command stands by the journal, and what looking at the device leaves of a Book.
 use Rattle.std.specs.Prelude.{◌≡◌, ℕ, cond, nat_eq, nat_lt, List, [], ◌∷◌, length}
-use Rattle.tree_model.specs.Disk.{Disk}
+use Rattle.bench.specs.Bench.{BenchState, Senses}
 use Rattle.journal_model.specs.declared.entries.Entry.{Entry}
 use Rattle.journal_model.specs.declared.entries.Entry.TheVariants.{Began, Stopped, Replied}
 use Rattle.vold_book.specs.declared.standings.Standing.{Standing}
 use Rattle.vold_book.specs.declared.standings.Standing.TheVariants.{Unknown, Queued, Running, Answered, Lost}
-use Rattle.vold_book.specs.State.{BookState}
+use Rattle.vold_book.specs.State.{BookState, over, seen}
 
 -- a queued command runs from its beginning on
 abbrev pub queued_after : ℕ → Entry → Standing
@@ -31,11 +31,14 @@ stands_from standing number (entry ∷ entries) = stands_from (stands_after stan
 abbrev pub stands_in : List Entry → ℕ → Standing
 stands_in entries number = stands_from Queued number entries
 
-abbrev pub standing_of : {D : Type 0} → BookState D → ℕ → Standing
+abbrev pub standing_of : {B : Type 0} → BookState B → ℕ → Standing
 standing_of book number =
     cond (nat_lt number (length book.docket.commands)) (stands_in book.ledger.entries number) Unknown
 
--- only the device was looked at, which leaves its disk
-pub record IsLooked {D : Type 0} (disk : D → Disk) (before after : BookState D) : Type 0 where
-  pub state : after ≡ record before { tree = after.tree }
-  pub same_disk : disk after.tree ≡ disk before.tree
+-- only the devices were looked at, which leaves all but their counts
+pub record IsLooked {D E : Type 0} (senses : Senses D E) (before after : BookState (BenchState D E)) : Type 0 where
+  pub state : after ≡ over before after.bench
+  pub same : (seen senses after).bench ≡ record (seen senses before).bench {
+    tree_counts = (seen senses after).bench.tree_counts;
+    store_counts = (seen senses after).bench.store_counts;
+  }

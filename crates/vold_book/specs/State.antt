@@ -1,93 +1,125 @@
 -- What contracts see of a Book.
-use Rattle.std.specs.Prelude.{ℕ, List}
+use Rattle.std.specs.Prelude.{ℕ, List, []}
 use Rattle.tree_model.specs.Disk.{Disk}
 use Rattle.tree_model.specs.Counted.{Counts}
-use Rattle.tree_model.specs.declared.places.Place.{Place}
-use Rattle.tree_model.specs.Order.{place_cmp}
 use Rattle.journal_model.specs.declared.commands.Actor.{Actor}
 use Rattle.journal_model.specs.declared.commands.Command.{Command}
+use Rattle.journal_model.specs.declared.phase.Phase.{Phase}
 use Rattle.journal_model.specs.Actor.{actor_cmp}
 use Rattle.journal_model.specs.Machine.{Machine, machine_after}
-use Rattle.sorted_map.specs.Maps.{Stored, held}
 use Rattle.docket.specs.Docket.{DocketState, StoredDocket, docket_of}
-use Rattle.user_world.specs.Timelines.{Timeline}
+use Rattle.deferred_delete.specs.Deferral.{Deferral}
+use Rattle.keystore_model.specs.Store.{Store}
+use Rattle.user_world.specs.Timelines.{Timeline, own_of}
+use Rattle.key_directory.specs.Vaults.{Vault, Attempts}
+use Rattle.step_core.specs.Table.{NamedPlaces}
+use Rattle.task_turns.specs.Shares.{Share}
+use Rattle.bench.specs.Bench.{BenchState, Senses, Plain as Seen, seen as bench_seen}
 use Rattle.vold_book.specs.declared.opened.Opened.{Opened}
 use Rattle.vold_book.specs.declared.tasks.Running.{Running}
 use Rattle.vold_book.specs.Parts.{LedgerState, TrackerState}
-use Rattle.vold_book.specs.Places.{PlaceMap}
-use Rattle.vold_book.specs.Recovery.{Ground}
 
 abbrev pub Docket : Type 0
 Docket = DocketState actor_cmp Command Running
 
-pub record BookState (D : Type 0) : Type 0 where
-  pub tree : D
-  -- the device's counts when the Book was opened
+-- how contracts see the devices, by the meanings that their traits give
+abbrev pub senses : {D E : Type 0} → (D → Disk) → (D → Counts) → (E → Store) → (E → Counts) → Senses D E
+senses disk tree_counts store store_counts =
+    record { disk = disk; tree_counts = tree_counts; store = store; store_counts = store_counts }
+
+-- a Book over a bench of some kind
+pub record BookState (B : Type 0) : Type 0 where
+  pub bench : B
+  -- the devices' counts when the Book was opened
   pub opened : Opened
+  -- the script's, and that of this boot
   pub seed : List ℕ
+  pub boot_seed : List ℕ
   pub ledger : LedgerState
   pub docket : Docket
   pub tracker : TrackerState
-  pub places : PlaceMap
 
 -- a Book's parts as they are stored
-pub record Parts (D : Type 0) : Type 0 where
+pub record Parts (D E : Type 0) : Type 0 where
   pub tree : D
+  pub store : E
+  pub places : NamedPlaces
+  pub list : Deferral
   pub opened : Opened
   pub seed : List ℕ
+  pub boot_seed : List ℕ
   pub ledger : LedgerState
   pub docket : StoredDocket Actor Command Running
   pub tracker : TrackerState
-  pub places : Stored Place (Unit {0})
 
-abbrev pub book_of : {D : Type 0} → Parts D → BookState D
+abbrev pub book_of : {D E : Type 0} → Parts D E → BookState (BenchState D E)
 book_of parts = record {
-  tree = parts.tree;
+  bench = record { tree = parts.tree; store = parts.store; places = parts.places; list = parts.list };
   opened = parts.opened;
   seed = parts.seed;
+  boot_seed = parts.boot_seed;
   ledger = parts.ledger;
   docket = docket_of actor_cmp parts.docket;
   tracker = parts.tracker;
-  places = held place_cmp parts.places;
 }
 
--- what contracts see of the device
-pub record Device : Type 0 where
-  pub disk : Disk
-  pub counts : Counts
-
--- a Book over what is seen of its device
+-- a Book over what is seen of its devices
 abbrev pub Plain : Type 0
-Plain = BookState Device
+Plain = BookState Seen
 
-abbrev pub seen : {D : Type 0} → (D → Disk) → (D → Counts) → BookState D → Plain
-seen disk counts book = record {
-  tree = record { disk = disk book.tree; counts = counts book.tree };
+abbrev pub over : {A B : Type 0} → BookState A → B → BookState B
+over book bench = record {
+  bench = bench;
   opened = book.opened;
   seed = book.seed;
+  boot_seed = book.boot_seed;
   ledger = book.ledger;
   docket = book.docket;
   tracker = book.tracker;
-  places = book.places;
 }
 
+abbrev pub seen : {D E : Type 0} → Senses D E → BookState (BenchState D E) → Plain
+seen senses book = over book (bench_seen senses book.bench)
+
 -- the machine that the journal leads to
-abbrev pub machine_of : {D : Type 0} → BookState D → Machine
+abbrev pub machine_of : {B : Type 0} → BookState B → Machine
 machine_of book = machine_after book.ledger.entries
 
 -- the disk with the changes of a machine
 abbrev pub timeline : Disk → Machine → Timeline
 timeline disk machine = record { disk = disk; kept = machine.kept; log = machine.log }
 
--- what tasks rest on
-abbrev pub ground_at : List ℕ → Disk → Machine → PlaceMap → Ground
-ground_at seed disk machine places = record {
-  seed = seed;
+-- what directories are opened with: nothing was added under a secret yet
+abbrev pub no_attempts : ℕ → Attempts
+no_attempts user = record { additions = []; secrets = [] }
+
+abbrev pub vault_of : List ℕ → Store → Vault
+vault_of seed store =
+    record { entries = store.entries; level = store.level; seed = seed; attempts = no_attempts }
+
+-- what tasks rest on: the machine's phase and boot, the disk with its changes, what directories are opened with, the
+-- known places and the list of waiting deletes
+pub record Ground : Type 0 where
+  pub phase : Phase
+  pub boot : ℕ
+  pub line : Timeline
+  pub vault : Vault
+  pub places : NamedPlaces
+  pub list : Deferral
+
+abbrev pub ground_at : List ℕ → Seen → Machine → Ground
+ground_at seed bench machine = record {
   phase = machine.phase;
   boot = machine.boot;
-  line = timeline disk machine;
-  places = places;
+  line = timeline bench.disk machine;
+  vault = vault_of seed bench.store;
+  places = bench.places;
+  list = bench.list;
 }
 
 abbrev pub ground_of : Plain → Ground
-ground_of book = ground_at book.seed book.tree.disk (machine_of book) book.places
+ground_of book = ground_at book.seed book.bench (machine_of book)
+
+-- a user's share of it
+abbrev pub share_of : ℕ → Ground → Share
+share_of user on = record { own = own_of user on.line; vault = on.vault }

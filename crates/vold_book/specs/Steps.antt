@@ -1,68 +1,73 @@
 -- What an actor's next turn does, as the Book's own functions hand it on.
-use Rattle.std.specs.Prelude.{◌≡◌, ◌⊎◌, Option, Some, IsNone, IsSome, slice_get}
+use Rattle.std.specs.Prelude.{◌≡◌, ◌⊎◌, Option, Some, None, IsNone, IsSome, slice_get}
 use Rattle.std.specs.FinMap as map
-use Rattle.tree_model.specs.Disk.{Disk}
-use Rattle.tree_model.specs.Counted.{Counts}
 use Rattle.journal_model.specs.declared.commands.Actor.{Actor}
 use Rattle.journal_model.specs.declared.commands.Command.{Command}
 use Rattle.journal_model.specs.declared.commands.Reply.{Reply}
 use Rattle.journal_model.specs.Machine.{TakesTurn}
-use Rattle.user_world.specs.declared.changes.LocalChange.{LocalChange}
-use Rattle.user_world.specs.declared.turns.Call.{Call}
-use Rattle.user_world.specs.declared.turns.Next.{Next}
-use Rattle.user_world.specs.declared.turns.Next.TheVariants.{Call as CallNext, Reply as ReplyNext}
-use Rattle.user_tasks.specs.Tasks.{UserTask}
-use Rattle.vold_book.specs.declared.recovery.Recovery.{Recovery}
+use Rattle.task_turns.specs.declared.next.Next.TheVariants.{Call as CallNext, Reply as ReplyNext}
+use Rattle.bench.specs.Bench.{BenchState, Senses}
 use Rattle.vold_book.specs.declared.tasks.Running.{Running}
 use Rattle.vold_book.specs.declared.tasks.Task.{Task}
-use Rattle.vold_book.specs.declared.tasks.Task.TheVariants.{User, Recovery as Recovers}
+use Rattle.vold_book.specs.declared.tasks.Task.TheVariants.{User}
+use Rattle.vold_book.specs.declared.plans.Planned.{Planned}
+use Rattle.vold_book.specs.Plans.{next_of}
+use Rattle.user_tasks.specs.Tasks.{UserTask}
 use Rattle.vold_book.specs.declared.turns.Step.{Step}
 use Rattle.vold_book.specs.declared.turns.Step.TheVariants.{Idle, Waits, Begin, GoOn}
-use Rattle.vold_book.specs.State.{BookState, seen}
+use Rattle.vold_book.specs.State.{BookState, Plain, seen}
 use Rattle.vold_book.specs.Tasks.{Plans}
-use Rattle.vold_book.specs.Turns.{Makes, after_reply}
+use Rattle.vold_book.specs.Turns.{Makes, Making, after_reply}
 
 -- what the next turn does, by what the actor runs and whether something waits for it
-abbrev pub IsStep : {D : Type 0} → BookState D → Actor → Step → Type 0
+abbrev pub IsStep : {B : Type 0} → BookState B → Actor → Step → Type 0
 IsStep book actor Idle = IsNone (map.get book.docket.running actor) × IsNone (map.get book.docket.waiting actor)
 IsStep book actor Waits = IsNone (map.get book.docket.running actor) × IsSome (map.get book.docket.waiting actor)
     × ¬ (TakesTurn book.tracker.phase actor)
 IsStep book actor Begin = IsNone (map.get book.docket.running actor) × IsSome (map.get book.docket.waiting actor)
     × TakesTurn book.tracker.phase actor
-IsStep book actor (GoOn it) = map.get book.docket.running actor ≡ Some it
+IsStep book actor GoOn = IsSome (map.get book.docket.running actor)
 
--- a task's next turn as a Book's
-abbrev pub as_user : Next UserTask → Next Task
-as_user (CallNext call change then) = CallNext call change (User then)
-as_user (ReplyNext reply) = ReplyNext reply
+-- the reply is what the actor's command does next
+pub record RepliesNext (book : Plain) (actor : Actor) (reply : Reply) : Type 0 where
+  pub it : Running
+  pub now : Task
+  pub plans : Plans book actor it now (ReplyNext reply)
 
-abbrev pub as_recovery : Next Recovery → Next Task
-as_recovery (CallNext call change then) = CallNext call change (Recovers then)
-as_recovery (ReplyNext reply) = ReplyNext reply
+-- the user's task with its job done, where there was one
+abbrev pub task_now : Option UserTask → Task → Task
+task_now None task = task
+task_now (Some user) task = User user
+
+-- this is what the actor's command does next
+pub record IsPlanned (book : Plain) (actor : Actor) (planned : Planned) : Type 0 where
+  pub it : Running
+  pub plans : Plans book actor it (task_now planned.task it.task) (next_of planned.plan)
 
 -- the reply was given to the actor's command
-pub record RepliesTo {D : Type 0} (before after : BookState D) (actor : Actor) (it : Running)
+pub record RepliesTo {D E : Type 0} (before after : BookState (BenchState D E)) (actor : Actor) (it : Running)
     (reply : Reply) : Type 0 where
   pub command : Command
   pub given : slice_get before.docket.commands it.number ≡ Some command
-  pub state : after ≡ after_reply before actor it.number command reply
+  pub state : after ≡ after_reply before actor it command reply
 
 -- the call that was planned was made
-pub record CallsOn {D : Type 0} (disk : D → Disk) (counts : D → Counts) (before after : BookState D) (actor : Actor)
-    (it : Running) : Type 0 where
-  pub call : Call
-  pub change : Option LocalChange
-  pub then : Task
-  pub plans : Plans (seen disk counts before) actor it (CallNext call change then)
-  pub makes : Makes disk counts before after actor it.number call change then
+pub record CallsOn {D E : Type 0} (senses : Senses D E) (before after : BookState (BenchState D E))
+    (actor : Actor) : Type 0 where
+  pub it : Running
+  pub making : Making
+  pub plans : Plans (seen senses before) actor it making.task (CallNext making.call making.change)
+  pub makes : Makes senses before after actor it.number making
 
 -- and the reply that was planned was given
-pub record RepliesOn {D : Type 0} (disk : D → Disk) (counts : D → Counts) (before after : BookState D) (actor : Actor)
-    (it : Running) : Type 0 where
+pub record RepliesOn {D E : Type 0} (senses : Senses D E) (before after : BookState (BenchState D E))
+    (actor : Actor) : Type 0 where
+  pub it : Running
+  pub now : Task
   pub reply : Reply
-  pub plans : Plans (seen disk counts before) actor it (ReplyNext reply)
+  pub plans : Plans (seen senses before) actor it now (ReplyNext reply)
   pub replies : RepliesTo before after actor it reply
 
-abbrev pub GoesOn : {D : Type 0} → (D → Disk) → (D → Counts) → BookState D → BookState D → Actor → Running → Type 0
-GoesOn disk counts before after actor it =
-    CallsOn disk counts before after actor it ⊎ RepliesOn disk counts before after actor it
+abbrev pub GoesOn : {D E : Type 0} → Senses D E → BookState (BenchState D E) → BookState (BenchState D E) → Actor
+    → Type 0
+GoesOn senses before after actor = CallsOn senses before after actor ⊎ RepliesOn senses before after actor

@@ -2,21 +2,23 @@
 use Rattle.std.specs.Prelude.{◌≡◌, ℕ, ◌+◌, [], ◌∷◌, ◌++◌}
 use Rattle.std.specs.FinMap as map
 use Rattle.tree_model.specs.declared.ops.Cut.{Cut}
-use Rattle.tree_model.specs.Disk.{Disk, stopped}
-use Rattle.tree_model.specs.Counted.{Counts}
+use Rattle.tree_model.specs.Disk.{stopped}
 use Rattle.journal_model.specs.declared.commands.Actor.TheVariants.{Boot}
 use Rattle.journal_model.specs.declared.commands.Command.TheVariants.{Recover}
 use Rattle.journal_model.specs.declared.entries.Entry.TheVariants.{Stopped, Restarted}
 use Rattle.journal_model.specs.declared.entries.Order.TheVariants.{Stop}
 use Rattle.journal_model.specs.declared.phase.Phase.TheVariants.{Down, Halted}
+use Rattle.journal_model.specs.Made.{boot_seed_of}
 use Rattle.docket.specs.Docket.{with_first_command}
 use Rattle.user_world.specs.Timelines.{survivors}
-use Rattle.vold_book.specs.State.{BookState, machine_of, timeline}
+use Rattle.bench.specs.Bench.{BenchState, Senses}
+use Rattle.vold_book.specs.State.{BookState, seen, machine_of, timeline}
+use Rattle.vold_book.specs.Turns.{unlisted}
 
--- the Book once the machine stopped: nothing runs, and what waits still waits
-abbrev pub after_stop : {D : Type 0} → BookState D → D → Cut → ℕ → BookState D
-after_stop book tree cut kept = record book {
-  tree = tree;
+-- the Book once the machine stopped: nothing runs and nothing is listed, and what waits still waits
+abbrev pub after_stop : {B : Type 0} → BookState B → B → Cut → ℕ → BookState B
+after_stop book bench cut kept = record book {
+  bench = bench;
   ledger = record book.ledger {
     entries = book.ledger.entries ++ Stopped kept ∷ [];
     orders = book.ledger.orders ++ Stop cut ∷ [];
@@ -26,18 +28,21 @@ after_stop book tree cut kept = record book {
 }
 
 -- a stop keeps exactly the operations of its cut, with its fills, and its entry has the number of changes that
--- survive: the durable ones, and those among the first pending operations that it keeps
-pub record IsStopped {D : Type 0} (disk : D → Disk) (counts : D → Counts) (before after : BookState D)
+-- survive: the durable ones, and those among the first pending operations that it keeps; the keystore stays
+pub record IsStopped {D E : Type 0} (senses : Senses D E) (before after : BookState (BenchState D E))
     (cut : Cut) : Type 0 where
-  pub left : disk after.tree ≡ stopped (disk before.tree) cut.keep cut.fills
-  pub same_counts : counts after.tree ≡ counts before.tree
-  pub state : after
-      ≡ after_stop before after.tree cut (survivors (timeline (disk before.tree) (machine_of before)) cut.keep)
+  pub left : (seen senses after).bench ≡ record (seen senses before).bench {
+    disk = stopped (seen senses before).bench.disk cut.keep cut.fills;
+    list = unlisted before.bench.list;
+  }
+  pub state : after ≡ after_stop before after.bench cut
+      (survivors (timeline (senses.disk before.bench.tree) (machine_of before)) cut.keep)
 
 -- the Book once the machine started again: a recovery is the first that waits for it
-abbrev pub after_restart : {D : Type 0} → BookState D → D → ℕ → BookState D
-after_restart book tree level = record book {
-  tree = tree;
+abbrev pub after_restart : {B : Type 0} → BookState B → B → ℕ → BookState B
+after_restart book bench level = record book {
+  bench = bench;
+  boot_seed = boot_seed_of book.seed (book.tracker.boot + 1);
   ledger = record book.ledger {
     entries = book.ledger.entries ++ Restarted (book.tracker.boot + 1) level ∷ [];
   };
@@ -45,9 +50,8 @@ after_restart book tree level = record book {
   tracker = record book.tracker { phase = Down; boot = book.tracker.boot + 1; level = level };
 }
 
--- a restart leaves the disk
-pub record IsRestarted {D : Type 0} (disk : D → Disk) (counts : D → Counts) (before after : BookState D)
-    (level : ℕ) : Type 0 where
-  pub same_disk : disk after.tree ≡ disk before.tree
-  pub same_counts : counts after.tree ≡ counts before.tree
-  pub state : after ≡ after_restart before after.tree level
+-- a restart leaves both devices, where the level is the one that the machine has
+pub record IsRestarted {D E : Type 0} (senses : Senses D E) (before after : BookState (BenchState D E)) (level : ℕ) :
+    Type 0 where
+  pub same : (seen senses after).bench ≡ (seen senses before).bench
+  pub state : after ≡ after_restart before after.bench level

@@ -1,20 +1,25 @@
--- What a turn leaves of a Book: it begins a command, or makes one call of the device, or gives one reply.
-use Rattle.std.specs.Prelude.{◌≡◌, ◌≢◌, ℕ, ◌<◌, ◌⊎◌, ◌↔◌, Bool, true, false, List, [], ◌∷◌, ◌++◌, length, Option}
-use Rattle.std.specs.Prelude.{Some, None, is_some, IsNone, Result, Ok, Err, slice_get}
+-- What a turn leaves of a Book: it begins a command, or makes one call of a device, or gives one reply.
+use Rattle.std.specs.Prelude.{◌≡◌, ◌≢◌, ℕ, ◌<◌, ◌==◌, ◌⊎◌, ◌↔◌, Bool, true, false, List, [], ◌∷◌, ◌++◌, length, Option}
+use Rattle.std.specs.Prelude.{Some, None, is_some, IsNone, Result, Ok, Err, slice_get, cond}
 use Rattle.std.specs.FinMap as map
+use Rattle.std.specs.List.{filter}
+use Rattle.tree_model.specs.declared.device.DevFault.{DevFault}
+use Rattle.tree_model.specs.declared.device.DevFault.TheVariants.{Failed as DeviceFailed}
 use Rattle.tree_model.specs.declared.places.Place.TheVariants.{De}
-use Rattle.tree_model.specs.Disk.{Disk, view}
-use Rattle.tree_model.specs.Counted.{Counts, IsCounted}
+use Rattle.tree_model.specs.Disk.{view}
+use Rattle.tree_model.specs.Counted.{Counts}
 use Rattle.tree_model.specs.Touch.{SameFor}
+use Rattle.deferred_delete.specs.Deferral.{Deferral}
+use Rattle.keystore_model.specs.declared.entry.StoreEntry.{StoreEntry}
 use Rattle.journal_model.specs.declared.commands.Actor.{Actor}
 use Rattle.journal_model.specs.declared.commands.Actor.TheVariants.{User}
 use Rattle.journal_model.specs.declared.commands.Command.{Command}
 use Rattle.journal_model.specs.declared.commands.EnqueueFault.{EnqueueFault}
 use Rattle.journal_model.specs.declared.commands.EnqueueFault.TheVariants.{Full, NoMemory as WantsMemory}
 use Rattle.journal_model.specs.declared.commands.Reply.{Reply}
-use Rattle.journal_model.specs.declared.commands.Reply.TheVariants.{TreeFault}
 use Rattle.journal_model.specs.declared.entries.Birth.{Birth}
 use Rattle.journal_model.specs.declared.entries.Change.{Change}
+use Rattle.journal_model.specs.declared.entries.Device.{Device}
 use Rattle.journal_model.specs.declared.entries.Entry.{Entry}
 use Rattle.journal_model.specs.declared.entries.Entry.TheVariants.{Began, Changed, Synced, Replied}
 use Rattle.journal_model.specs.declared.phase.Phase.TheVariants.{Up}
@@ -22,71 +27,106 @@ use Rattle.journal_model.specs.declared.refusals.Facts.{Facts}
 use Rattle.journal_model.specs.Command.{actor_of, user_in}
 use Rattle.journal_model.specs.Refusals.{refusal_of}
 use Rattle.journal_model.specs.Machine.{is_up, phase_after, TakesTurn}
+use Rattle.journal_model.specs.Made.{boot_seed_of}
 use Rattle.docket.specs.Docket.{empty_docket, with_command as docket_with, after_begin as docket_begun, begun_by}
 use Rattle.user_world.specs.declared.changes.LocalChange.{LocalChange}
-use Rattle.user_world.specs.declared.turns.Call.{Call}
+use Rattle.step_core.specs.Table.{NamedPlaces}
+use Rattle.task_turns.specs.declared.calls.Call.{Call}
+use Rattle.bench.specs.declared.made.Made.{Made}
+use Rattle.bench.specs.Seen.{AnswersWhole}
+use Rattle.bench.specs.Bench.{BenchState, Senses, IsMade, AreCounted, device_of, told_of, listed}
+use Rattle.bench.specs.Bench.{was_done}
 use Rattle.user_tasks.specs.Tasks.{UserTask, Begins as TaskBegins}
 use Rattle.vold_book.specs.declared.opened.Opened.{Opened}
 use Rattle.vold_book.specs.declared.recovery.Recovery.TheVariants.{Listing}
+use Rattle.vold_book.specs.declared.tasks.Held.{Held}
 use Rattle.vold_book.specs.declared.tasks.Running.{Running}
 use Rattle.vold_book.specs.declared.tasks.Task.{Task}
 use Rattle.vold_book.specs.declared.tasks.Task.TheVariants.{User as Using, Recovery, Refusal, Fault}
 use Rattle.vold_book.specs.declared.turns.Turn.{Turn}
 use Rattle.vold_book.specs.declared.turns.Turn.TheVariants.{Went, Idle, Waits}
-use Rattle.vold_book.specs.Calls.{IsMade, as_answer, entry_of}
+use Rattle.vold_book.specs.Entries.{entry_of, made_entry}
 use Rattle.vold_book.specs.Parts.{no_ledger, new_tracker, ledger_with, noted}
-use Rattle.vold_book.specs.Places.{PlaceMap, IsTidy}
-use Rattle.vold_book.specs.State.{BookState}
-use Rattle.vold_book.specs.Whole.{max_commands, turns_left}
+use Rattle.vold_book.specs.Recovery.{max_commands, AllPlaced}
+use Rattle.vold_book.specs.State.{BookState, Plain, over, seen}
+use Rattle.vold_book.specs.Sweeping.{IsTidy}
+use Rattle.vold_book.specs.Tasks.{begins_anew, lists_with, TaskAfter, fault_of}
+use Rattle.vold_book.specs.Whole.{turns_left}
 
 -- a Book as it is opened: nothing was given out and nothing done
-abbrev pub new_book : {D : Type 0} → D → Opened → List ℕ → BookState D
-new_book tree opened seed = record {
-  tree = tree;
+abbrev pub new_book : {B : Type 0} → B → Opened → List ℕ → BookState B
+new_book bench opened seed = record {
+  bench = bench;
   opened = opened;
   seed = seed;
+  boot_seed = boot_seed_of seed 0;
   ledger = no_ledger;
   docket = empty_docket;
   tracker = new_tracker;
-  places = map.empty;
 }
 
--- the device's counts as they are
-abbrev pub opened_at : Counts → Opened
-opened_at counts = record { calls = counts.calls; faults = counts.faults }
+abbrev pub new_bench : {D E : Type 0} → D → E → BenchState D E
+new_bench tree store = record {
+  tree = tree;
+  store = store;
+  places = map.empty;
+  list = record { items = []; next = 0; promised = 0 };
+}
+
+-- the devices' counts as they are
+abbrev pub opened_at : Counts → Counts → Opened
+opened_at tree store = record {
+  tree = record { calls = tree.calls; faults = tree.faults };
+  store = record { calls = store.calls; faults = store.faults };
+}
 
 -- the Book with a further command, which waits last for its actor
-abbrev pub with_command : {D : Type 0} → BookState D → Command → BookState D
+abbrev pub with_command : {B : Type 0} → BookState B → Command → BookState B
 with_command book command = record book { docket = docket_with book.docket (actor_of command) command }
 
 -- what each answer to a command tells: its number, that none is left, or that memory was missing
-abbrev pub IsEnqueued : {D : Type 0} → BookState D → BookState D → Command → Result ℕ EnqueueFault → Type 0
+abbrev pub IsEnqueued : {B : Type 0} → BookState B → BookState B → Command → Result ℕ EnqueueFault → Type 0
 IsEnqueued before after command (Ok number) = (number ≡ length before.docket.commands)
     × (length before.docket.commands < max_commands) × (after ≡ with_command before command)
 IsEnqueued before after command (Err Full) = (length before.docket.commands ≡ max_commands) × (after ≡ before)
 IsEnqueued before after command (Err WantsMemory) = (length before.docket.commands < max_commands) × (after ≡ before)
 
 -- what decides whether a command is refused, as the Book knows it
-abbrev pub user_there : PlaceMap → Option ℕ → Bool
+abbrev pub user_there : NamedPlaces → Option ℕ → Bool
 user_there places None = false
 user_there places (Some user) = is_some (map.get places (De user))
 
-abbrev pub facts_in : {D : Type 0} → BookState D → Command → Facts
-facts_in book command = record { present = user_there book.places (user_in command); ready = is_up book.tracker.phase }
+abbrev pub facts_in : {B : Type 0} → NamedPlaces → BookState B → Command → Facts
+facts_in places book command =
+    record { present = user_there places (user_in command); ready = is_up book.tracker.phase }
 
 -- what a command does first that isn't refused: what a user's task begins with, or what a recovery does
-abbrev pub AcceptedTask : Command → Birth → Option ℕ → Task → Type 0
-AcceptedTask command birth (Some user) task =
-    (first : UserTask) × (task ≡ Using first) × TaskBegins command birth first
-AcceptedTask command birth None task = task ≡ Recovery Listing
+abbrev pub AcceptedTask : Command → Birth → List ℕ → Option ℕ → Task → Type 0
+AcceptedTask command birth boot_seed (Some user) task =
+    (first : UserTask) × (task ≡ Using first) × TaskBegins command birth boot_seed first
+AcceptedTask command birth boot_seed None task = task ≡ Recovery Listing
 
 -- what it does first: its refusal where one is due
-abbrev pub FirstTask : Command → Birth → Option Reply → Task → Type 0
-FirstTask command birth (Some reply) task = task ≡ Refusal reply
-FirstTask command birth None task = AcceptedTask command birth (user_in command) task
+abbrev pub FirstTask : Command → Birth → List ℕ → Option Reply → Task → Type 0
+FirstTask command birth boot_seed (Some reply) task = task ≡ Refusal reply
+FirstTask command birth boot_seed None task = AcceptedTask command birth boot_seed (user_in command) task
+
+-- a recovery knows nothing of the tree as it begins, and nothing is listed then
+abbrev pub unlisted : Deferral → Deferral
+unlisted list = record list { items = []; promised = 0 }
+
+abbrev pub begun_places : Task → NamedPlaces → NamedPlaces
+begun_places task places = cond (begins_anew task) map.empty places
+
+abbrev pub begun_list : Task → Deferral → Deferral
+begun_list task list = cond (begins_anew task) (unlisted list) list
+
+abbrev pub begun_bench : {D E : Type 0} → Task → BenchState D E → BenchState D E
+begun_bench task bench =
+    record bench { places = begun_places task bench.places; list = begun_list task bench.list }
 
 -- a turn that begins the first command of the actor's queue, and makes no call
-pub record Begins {D : Type 0} (before after : BookState D) (actor : Actor) : Type 0 where
+pub record Begins {D E : Type 0} (before after : BookState (BenchState D E)) (actor : Actor) : Type 0 where
   pub number : ℕ
   pub numbers : List ℕ
   pub command : Command
@@ -94,134 +134,154 @@ pub record Begins {D : Type 0} (before after : BookState D) (actor : Actor) : Ty
   pub queued : map.get before.docket.waiting actor ≡ Some (number ∷ numbers)
   pub given : slice_get before.docket.commands number ≡ Some command
   pub first : FirstTask command (record { boot = before.tracker.boot; index = begun_by before.docket actor })
-      (refusal_of command (facts_in before command)) task
+      before.boot_seed (refusal_of command (facts_in before.bench.places before command)) task
   pub state : after ≡ record before {
+    bench = begun_bench task before.bench;
     ledger = record before.ledger { entries = before.ledger.entries ++ Began number actor command ∷ [] };
     docket = docket_begun before.docket actor numbers (record { number = number; task = task });
   }
 
 -- the Book once the actor's command got its reply
-abbrev pub after_reply : {D : Type 0} → BookState D → Actor → ℕ → Command → Reply → BookState D
-after_reply book actor number command reply = record book {
-  ledger = record book.ledger { entries = book.ledger.entries ++ Replied number reply ∷ [] };
+abbrev pub after_reply : {D E : Type 0} → BookState (BenchState D E) → Actor → Running → Command → Reply
+    → BookState (BenchState D E)
+after_reply book actor it command reply = record book {
+  bench = record book.bench { list = listed book.bench.list (lists_with it.task) };
+  ledger = record book.ledger { entries = book.ledger.entries ++ Replied it.number reply ∷ [] };
   docket = record book.docket { running = map.remove book.docket.running actor };
   tracker = record book.tracker { phase = phase_after book.tracker.phase command reply };
 }
 
--- what a call leads to, or that the next turn tells that the device failed
-abbrev pub task_after : Bool → Task → Task
-task_after true then = then
-task_after false then = Fault
+-- a call of a task's, with the change that it makes, the task that makes it, and what it is after the call
+pub record Making : Type 0 where
+  pub call : Call
+  pub change : Option LocalChange
+  pub task : Task
+  pub then : Task
 
-abbrev pub made_entry : Bool → Option Entry → Option Entry
-made_entry true entry = entry
-made_entry false entry = None
-
--- the Book once an actor's task made its call, and the device did it or failed; `tree` and `places` are what the call
--- left
-pub record Called (D : Type 0) : Type 0 where
-  pub tree : D
-  pub places : PlaceMap
-  pub made : Bool
-
-abbrev pub after_call : {D : Type 0} → BookState D → Actor → ℕ → Call → Option LocalChange
-    → Task → Called D → BookState D
-after_call book actor number call change then called = record book {
-  tree = called.tree;
-  ledger = ledger_with book.ledger actor (made_entry called.made (entry_of number call change));
+-- the Book once an actor's task made its call, and the device did it or failed, with what the call left of the bench
+abbrev pub after_call : {B : Type 0} → BookState B → Actor → ℕ → Making → Made → B → BookState B
+after_call book actor number making made bench = record book {
+  bench = bench;
+  ledger = ledger_with book.ledger actor (made_entry made (entry_of number making.call making.change));
   docket = record book.docket {
-    running = map.insert book.docket.running actor (record { number = number; task = task_after called.made then });
+    running = map.insert book.docket.running actor (record { number = number; task = making.then });
   };
-  tracker = noted called.made call (is_some change) book.tracker;
-  places = called.places;
+  tracker = noted (was_done made) making.call (is_some making.change) book.tracker;
 }
 
 -- the call was made and counted, and noted as it went
-pub record Makes {D : Type 0} (disk : D → Disk) (counts : D → Counts) (before after : BookState D) (actor : Actor)
-    (number : ℕ) (call : Call) (change : Option LocalChange) (then : Task) : Type 0 where
-  pub called : Called D
-  pub is_made : IsMade (disk before.tree) (disk called.tree) before.places called.places call (Ok called.made)
-  pub counted : IsCounted (counts before.tree) (counts called.tree) (as_answer (Ok called.made))
-  pub state : after ≡ after_call before actor number call change then called
+pub record Makes {D E : Type 0} (senses : Senses D E) (before after : BookState (BenchState D E)) (actor : Actor)
+    (number : ℕ) (making : Making) : Type 0 where
+  pub made : Made
+  pub is_made : IsMade (seen senses before).bench (seen senses after).bench making.call (Ok made)
+  pub counted : AreCounted (seen senses before).bench (seen senses after).bench (device_of making.call)
+      (told_of (Ok made))
+  -- a blob that is answered has 32 bytes
+  pub answers : AnswersWhole (Ok made)
+  pub then : TaskAfter making.call made making.task making.then
+  pub state : after ≡ after_call before actor number making made after.bench
 
 -- an entry of a call: a sync, or a change of this command
 abbrev pub IsNoted : ℕ → Option Entry → Type 0
 IsNoted number None = Unit {0}
 IsNoted number (Some entry) = (entry ≡ Synced) ⊎ ((change : Change) × (entry ≡ Changed number change))
 
--- a turn that makes one call, counted, with at most one entry; that the device failed is told next exactly where it
--- did
-pub record CallsOnce {D : Type 0} (counts : D → Counts) (before after : BookState D) (actor : Actor) : Type 0 where
+-- the task tells next that the device failed
+pub record IsFault (device : Device) (task : Task) : Type 0 where
+  pub held : Held
+  pub is : task ≡ Fault device held
+
+-- the device's answer, as whether it did its work
+abbrev pub as_told : Bool → Result (Unit {0}) DevFault
+as_told true = Ok tt
+as_told false = Err DeviceFailed
+
+-- a turn that makes one call, counted by its device, with at most one entry; that the device failed is told next
+-- exactly where it did
+pub record CallsOnce {D E : Type 0} (senses : Senses D E) (before after : BookState (BenchState D E))
+    (actor : Actor) : Type 0 where
   pub it : Running
+  pub device : Device
   pub made : Bool
   pub entry : Option Entry
   pub task : Task
   pub runs : map.get before.docket.running actor ≡ Some it
-  pub counted : IsCounted (counts before.tree) (counts after.tree) (as_answer (Ok made))
+  pub counted : AreCounted (seen senses before).bench (seen senses after).bench device (as_told made)
   pub noted : IsNoted it.number entry
   pub quiet : made ≡ false → entry ≡ None
-  pub fault : (made ≡ false) ↔ (task ≡ Fault)
-  -- the rest stays, but for what the Book knows of the device
+  pub fault : (made ≡ false) ↔ IsFault device task
+  -- the rest stays, but for what the Book knows of the devices
   pub state : after ≡ record before {
-    tree = after.tree;
+    bench = after.bench;
     ledger = ledger_with before.ledger actor entry;
     docket = record before.docket {
       running = map.insert before.docket.running actor (record { number = it.number; task = task });
     };
     tracker = record before.tracker { durable = after.tracker.durable; pending = after.tracker.pending };
-    places = after.places;
   }
 
 -- a turn that gives a reply, and makes no call
-pub record RepliesOnce {D : Type 0} (before after : BookState D) (actor : Actor) : Type 0 where
+pub record RepliesOnce {D E : Type 0} (before after : BookState (BenchState D E)) (actor : Actor) : Type 0 where
   pub it : Running
   pub command : Command
   pub reply : Reply
   pub runs : map.get before.docket.running actor ≡ Some it
   pub given : slice_get before.docket.commands it.number ≡ Some command
-  -- that the device failed is told only where it was due
-  pub told : reply ≡ TreeFault → it.task ≡ Fault
-  pub state : after ≡ after_reply before actor it.number command reply
+  -- that a device failed is told only where it was due
+  pub told : (device : Device) → reply ≡ fault_of device → IsFault device it.task
+  pub state : after ≡ after_reply before actor it command reply
 
 -- one turn of an actor: it begins a command where it runs none, and else makes one call or gives its reply
-abbrev pub Turns : {D : Type 0} → (D → Counts) → BookState D → BookState D → Actor → Type 0
-Turns counts before after actor = (IsNone (map.get before.docket.running actor) × Begins before after actor)
-    ⊎ (CallsOnce counts before after actor ⊎ RepliesOnce before after actor)
+abbrev pub Turns : {D E : Type 0} → Senses D E → BookState (BenchState D E) → BookState (BenchState D E) → Actor
+    → Type 0
+Turns senses before after actor = (IsNone (map.get before.docket.running actor) × Begins before after actor)
+    ⊎ (CallsOnce senses before after actor ⊎ RepliesOnce before after actor)
 
--- nothing changed that a contract sees of the device or the Book
-pub record IsSame {D : Type 0} (disk : D → Disk) (counts : D → Counts) (before after : BookState D) : Type 0 where
-  pub state : after ≡ record before { tree = after.tree }
-  pub same_disk : disk after.tree ≡ disk before.tree
-  pub same_counts : counts after.tree ≡ counts before.tree
+-- nothing changed that a contract sees of the devices or the Book
+pub record IsSame {D E : Type 0} (senses : Senses D E) (before after : BookState (BenchState D E)) : Type 0 where
+  pub state : after ≡ over before after.bench
+  pub same : (seen senses after).bench ≡ (seen senses before).bench
 
 -- an actor that has neither a running command nor a queue
-abbrev pub IsIdle : {D : Type 0} → BookState D → Actor → Type 0
+abbrev pub IsIdle : {B : Type 0} → BookState B → Actor → Type 0
 IsIdle book actor = IsNone (map.get book.docket.running actor) × IsNone (map.get book.docket.waiting actor)
 
 -- a turn that went: it did one of the three things, for an actor that has something to do
-pub record Goes {D : Type 0} (counts : D → Counts) (before after : BookState D) (actor : Actor) : Type 0 where
-  pub turn : Turns counts before after actor
+pub record Goes {D E : Type 0} (senses : Senses D E) (before after : BookState (BenchState D E)) (actor : Actor) :
+    Type 0 where
+  pub turn : Turns senses before after actor
   pub busy : ¬ (IsIdle before actor)
   pub takes : TakesTurn before.tracker.phase actor
 
 -- what each answer of a turn tells
-abbrev pub Answers : {D : Type 0} → (D → Counts) → BookState D → BookState D → Actor → Turn → Type 0
-Answers counts before after actor Went = Goes counts before after actor
-Answers counts before after actor Idle = IsIdle before actor × (after ≡ before)
-Answers counts before after actor Waits =
+abbrev pub Answers : {D E : Type 0} → Senses D E → BookState (BenchState D E) → BookState (BenchState D E) → Actor
+    → Turn → Type 0
+Answers senses before after actor Went = Goes senses before after actor
+Answers senses before after actor Idle = IsIdle before actor × (after ≡ before)
+Answers senses before after actor Waits =
     ¬ (IsIdle before actor) × ¬ (TakesTurn before.tracker.phase actor) × (after ≡ before)
 
--- a user's turn leaves what stands at the places of other users
-abbrev pub LeavesOthers : {D : Type 0} → (D → Disk) → BookState D → BookState D → Actor → Type 0
-LeavesOthers disk before after actor = (owner user : ℕ) → actor ≡ User owner → user ≢ owner
-    → SameFor user (view (disk before.tree)) (view (disk after.tree))
+-- the entries of a user's keys
+abbrev pub entries_of : ℕ → List StoreEntry → List StoreEntry
+entries_of user entries = filter (λ entry. entry.tag.user == user) entries
+
+-- a user's turn leaves what stands at the places of other users, and their keys' entries
+abbrev pub LeavesOthers : Plain → Plain → Actor → Type 0
+LeavesOthers before after actor = (owner user : ℕ) → actor ≡ User owner → user ≢ owner
+    → SameFor user (view before.bench.disk) (view after.bench.disk)
+    × (entries_of user after.bench.store.entries ≡ entries_of user before.bench.store.entries)
 
 -- fewer turns are left once one went
-abbrev pub Falls : {D : Type 0} → (D → Disk) → BookState D → BookState D → Turn → Type 0
-Falls disk before after Went = turns_left disk after < turns_left disk before
-Falls disk before after turn = Unit {0}
+abbrev pub Falls : Plain → Plain → Turn → Type 0
+Falls before after Went = turns_left after < turns_left before
+Falls before after turn = Unit {0}
 
--- a turn brings a machine up only where nothing is half made in the view, and nothing else can come of a stop
-abbrev pub ComesUp : {D : Type 0} → (D → Disk) → BookState D → BookState D → Type 0
-ComesUp disk before after = before.tracker.phase ≢ Up → after.tracker.phase ≡ Up
-    → IsTidy after.places (view (disk after.tree)) × ((disk after.tree).pending ≡ [])
+-- a turn brings a machine up only where nothing is half made in the view, nothing else can come of a stop, and each
+-- live blob is named in the view or listed
+pub record IsTidied (book : Plain) : Type 0 where
+  pub tidy : IsTidy book.bench.places (view book.bench.disk)
+  pub still : book.bench.disk.pending ≡ []
+  pub placed : AllPlaced book.bench.store.entries (view book.bench.disk) book.bench.list
+
+abbrev pub ComesUp : Plain → Plain → Type 0
+ComesUp before after = before.tracker.phase ≢ Up → after.tracker.phase ≡ Up → IsTidied after

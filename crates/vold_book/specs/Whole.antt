@@ -1,16 +1,23 @@
--- When a Book is whole: its journal is legal, what it tracks agrees with the machine and the disk, every tree that a
--- stop can leave stands for a prefix of the changes, no number is lost, each running command stands where its task
--- says, and replies that tell of a failure are charged to failures of the device.
+-- When a Book is whole: its journal is legal, what it tracks agrees with the machine and the devices, every tree that
+-- a stop can leave stands for a prefix of the changes, no number is lost, each running command stands where its task
+-- says, every live blob is named, held or listed, and replies that tell of a failure are charged to failures of their
+-- devices.
 use Rattle.std.specs.Prelude.{◌≡◌, ℕ, ◌+◌, ◌*◌, ◌-◌, ◌^◌, ◌≤◌, ◌⊎◌, List, [], ◌∷◌, length, Some, None, IsSomeAnd}
 use Rattle.std.specs.Prelude.{Contains, slice_get, unwrap_or}
+use Rattle.std.specs.List.{flat_map}
 use Rattle.std.specs.FinMap as map
-use Rattle.tree_model.specs.Disk.{Disk, view}
-use Rattle.tree_model.specs.Counted.{Counts}
+use Rattle.tree_model.specs.declared.blobs.Blob.{Blob}
+use Rattle.tree_model.specs.Disk.{view}
+use Rattle.tree_model.specs.Tree.{Tree}
+use Rattle.keystore_model.specs.Store.{IsStore}
+use Rattle.blob_custody.specs.Custody.{Custody, IsClean, IsLeft}
 use Rattle.journal_model.specs.declared.commands.Actor.{Actor}
 use Rattle.journal_model.specs.declared.commands.Actor.TheVariants.{Boot}
 use Rattle.journal_model.specs.declared.commands.Command.{Command}
 use Rattle.journal_model.specs.declared.commands.Reply.{Reply}
-use Rattle.journal_model.specs.declared.commands.Reply.TheVariants.{TreeFault}
+use Rattle.journal_model.specs.declared.commands.Reply.TheVariants.{TreeFault, StoreFault}
+use Rattle.journal_model.specs.declared.entries.Device.{Device}
+use Rattle.journal_model.specs.declared.entries.Device.TheVariants.{Tree as TreeDevice, Store as StoreDevice}
 use Rattle.journal_model.specs.declared.entries.Entry.{Entry}
 use Rattle.journal_model.specs.declared.entries.Entry.TheVariants.{Began, Replied}
 use Rattle.journal_model.specs.declared.phase.Phase.{Phase}
@@ -18,24 +25,26 @@ use Rattle.journal_model.specs.declared.phase.Phase.TheVariants.{Up, Down, Halte
 use Rattle.journal_model.specs.Actor.{actor_cmp}
 use Rattle.journal_model.specs.Command.{actor_of}
 use Rattle.journal_model.specs.Machine.{Machine, Running as BeganCommand, IsLegal, IsDurable, begun_by, numbers_begun}
+use Rattle.journal_model.specs.Machine.{is_up}
+use Rattle.journal_model.specs.Made.{boot_seed_of}
 use Rattle.sorted_map.specs.Sums.{total_by}
 use Rattle.docket.specs.Accounts.{Accounted}
 use Rattle.user_world.specs.Images.{ImagesStand}
 use Rattle.user_world.specs.Timelines.{OwnWorldsStand}
-use Rattle.user_tasks.specs.Tasks.{left_of}
-use Rattle.key_directory.specs.Rehearsal.{rehearsal}
+use Rattle.key_directory.specs.Vaults.{sealed}
+use Rattle.step_core.specs.Table.{NamedPlaces}
+use Rattle.bench.specs.Bench.{BenchState, Senses, Plain as Seen}
+use Rattle.bench.specs.Known.{Knows}
+use Rattle.user_tasks.specs.Tasks.{rest_of}
+use Rattle.vold_book.specs.declared.opened.Opened.{Opened}
+use Rattle.vold_book.specs.declared.recovery.Recovery.TheVariants.{Listed}
 use Rattle.vold_book.specs.declared.tasks.Running.{Running}
 use Rattle.vold_book.specs.declared.tasks.Task.{Task}
 use Rattle.vold_book.specs.declared.tasks.Task.TheVariants.{User, Recovery, Refusal, Fault}
 use Rattle.vold_book.specs.Parts.{Agrees}
-use Rattle.vold_book.specs.Places.{KnowsPlaces}
-use Rattle.vold_book.specs.Recovery.{recovery_left}
-use Rattle.vold_book.specs.State.{Docket, BookState, Plain, seen, machine_of, timeline, ground_of}
-use Rattle.vold_book.specs.Tasks.{RunsOn}
-
--- the most numbers that are given out
-abbrev pub max_commands : ℕ
-max_commands = 65536
+use Rattle.vold_book.specs.Recovery.{max_commands, max_places, recovery_left}
+use Rattle.vold_book.specs.State.{Docket, BookState, Plain, seen, machine_of, timeline, ground_of, vault_of}
+use Rattle.vold_book.specs.Tasks.{RunsOn, held_in}
 
 -- a command that began is the one that its number was given to
 abbrev pub BeganAsGiven : List Command → Entry → Type 0
@@ -68,70 +77,156 @@ abbrev pub AllRun : Machine → map.FinMap actor_cmp Running → Type 0
 AllRun machine running = (number : ℕ) (began : BeganCommand) → map.get machine.running number ≡ Some began
     → IsSomeAnd (map.get running (actor_of began.command)) (λ it. it.number ≡ number)
 
--- what stands by the phase: the known places are the view's; or every change is durable and nothing but a recovery
--- runs; or nothing runs, and nothing is pending
+-- what stands by the phase: what the places of the view name is known; or every change is durable and nothing but a
+-- recovery runs; or nothing runs, and nothing is pending
 abbrev pub PhaseStands : Phase → Plain → Machine → Type 0
-PhaseStands Up book machine = KnowsPlaces book.places (view book.tree.disk)
+PhaseStands Up book machine = Knows book.bench.places (view book.bench.disk)
 PhaseStands Down book machine = IsDurable machine None
     × ((actor : Actor) (it : Running) → map.get book.docket.running actor ≡ Some it → actor ≡ Boot)
 PhaseStands Halted book machine =
-    IsDurable machine None × (book.tree.disk.pending ≡ []) × (book.docket.running ≡ map.empty)
+    IsDurable machine None × (book.bench.disk.pending ≡ []) × (book.docket.running ≡ map.empty)
 
--- replies that tell of a failed device, and those that are due
-abbrev pub charge_of : Reply → ℕ
-charge_of TreeFault = 1
-charge_of reply = 0
+-- replies that tell that a device failed, and those that are due
+abbrev pub charge_of : Device → Reply → ℕ
+charge_of TreeDevice TreeFault = 1
+charge_of StoreDevice StoreFault = 1
+charge_of device reply = 0
 
-abbrev pub charge_in : Entry → ℕ
-charge_in (Replied number reply) = charge_of reply
-charge_in entry = 0
+abbrev pub charge_in : Device → Entry → ℕ
+charge_in device (Replied number reply) = charge_of device reply
+charge_in device entry = 0
 
-abbrev pub due_in : Task → ℕ
-due_in Fault = 1
-due_in task = 0
+abbrev pub same_device : Device → Device → ℕ
+same_device TreeDevice TreeDevice = 1
+same_device StoreDevice StoreDevice = 1
+same_device device other = 0
 
-abbrev pub due_of : Running → ℕ
-due_of it = due_in it.task
+abbrev pub due_in : Device → Task → ℕ
+due_in device (Fault failed held) = same_device device failed
+due_in device task = 0
 
--- the replies that told of a failure and those that are due are at most the failures since the Book was opened, while
--- the device can count them
-abbrev pub IsCharged : Plain → Type 0
-IsCharged book =
-    (book.opened.faults + (total_by charge_in book.ledger.entries + total_by due_of (map.values book.docket.running))
-    ≤ book.tree.counts.faults)
-    ⊎ (2 ^ 64 - 1 ≤ book.tree.counts.faults)
+abbrev pub due_of : Device → Running → ℕ
+due_of device it = due_in device it.task
+
+-- the failures of a device, and those when the Book was opened
+abbrev pub faults_of : Seen → Device → ℕ
+faults_of bench TreeDevice = bench.tree_counts.faults
+faults_of bench StoreDevice = bench.store_counts.faults
+
+abbrev pub first_faults : Opened → Device → ℕ
+first_faults opened TreeDevice = opened.tree.faults
+first_faults opened StoreDevice = opened.store.faults
+
+-- the replies that told of a failure and those that are due are at most the device's failures since the Book was
+-- opened, while it can count them
+abbrev pub IsCharged : Plain → Device → Type 0
+IsCharged book device =
+    (first_faults book.opened device + (total_by (charge_in device) book.ledger.entries
+    + total_by (due_of device) (map.values book.docket.running)) ≤ faults_of book.bench device)
+    ⊎ (2 ^ 64 - 1 ≤ faults_of book.bench device)
+
+-- the blobs that running commands hold
+abbrev pub held_of : Running → List Blob
+held_of it = held_in it.task
+
+abbrev pub all_held : map.FinMap actor_cmp Running → List Blob
+all_held running = flat_map held_of (map.values running)
+
+abbrev pub custody_of : Plain → Custody
+custody_of book = record {
+  disk = book.bench.disk;
+  base = None;
+  entries = book.bench.store.entries;
+  list = book.bench.list;
+  held = all_held book.docket.running;
+  ready = is_up book.tracker.phase;
+}
+
+-- how many directories, and how many entries, a running command still makes
+abbrev pub makes_in : Task → ℕ
+makes_in (User task) = (rest_of task).makes
+makes_in task = 0
+
+abbrev pub draws_in : Task → ℕ
+draws_in (User task) = (rest_of task).draws
+draws_in task = 0
+
+abbrev pub makes_of : Running → ℕ
+makes_of it = makes_in it.task
+
+abbrev pub draws_of : Running → ℕ
+draws_of it = draws_in it.task
+
+-- how many blobs it may still list
+abbrev pub lists_in : Task → ℕ
+lists_in (User task) = 2
+lists_in (Recovery Listed) = 0
+lists_in (Recovery recovery) = max_places
+lists_in (Refusal reply) = 0
+lists_in (Fault device held) = 2
+
+abbrev pub lists_of : Running → ℕ
+lists_of it = lists_in it.task
+
+-- each number that was given out may make so many: what was made, what running commands may still make, and what
+-- those may that wait
+abbrev pub within : Docket → ℕ → (Running → ℕ) → ℕ → Type 0
+within docket each of made =
+    made + total_by of (map.values docket.running) + each * total_by length (map.values docket.waiting)
+    ≤ each * length docket.commands
+
+pub record IsSmall (book : Plain) : Type 0 where
+  pub given : within book.docket 2 draws_of (length book.bench.store.given)
+  pub entries : within book.docket 2 draws_of (length book.bench.store.entries)
+  -- the directories of whatever tree a stop can leave
+  pub trees : (left : Tree) → IsLeft book.bench.disk left → within book.docket 2 makes_of (map.len left)
+  pub listed : within book.docket max_places lists_of book.bench.list.next
+  -- a place of the list is promised within a turn alone
+  pub unpromised : book.bench.list.promised ≡ 0
 
 pub record Whole (book : Plain) : Type 0 where
   pub legal : IsLegal book.ledger.entries
-  pub agrees : Agrees book.tracker (machine_of book) book.tree.disk
+  pub agrees : Agrees book.tracker (machine_of book) book.bench.disk
   pub short : length book.seed ≤ 64
+  pub seeded : book.boot_seed ≡ boot_seed_of book.seed book.tracker.boot
+  pub store : IsStore book.bench.store
+  pub level : book.bench.store.level ≡ book.tracker.level
   -- every tree that a stop can leave stands for the changes up to there
-  pub images : ImagesStand (rehearsal book.seed) book.tree.disk (machine_of book).kept (machine_of book).log
+  pub images : ImagesStand (sealed (vault_of book.seed book.bench.store)) book.bench.disk (machine_of book).kept
+      (machine_of book).log
   -- the same by users
-  pub worlds : OwnWorldsStand (rehearsal book.seed) (timeline book.tree.disk (machine_of book))
+  pub worlds : OwnWorldsStand (sealed (vault_of book.seed book.bench.store))
+      (timeline book.bench.disk (machine_of book))
   pub numbers : Numbers book.docket book.ledger.entries (machine_of book)
   -- each actor's command stands where its task says, and each command on the machine is run by its actor
   pub run : (actor : Actor) (it : Running) → map.get book.docket.running actor ≡ Some it
       → RunsOn (ground_of book) (machine_of book) actor it
   pub all : AllRun (machine_of book) book.docket.running
   pub phase : PhaseStands book.tracker.phase book (machine_of book)
-  pub charged : IsCharged book
+  -- each live blob is named, held or listed
+  pub clean : IsClean (custody_of book)
+  pub small : IsSmall book
+  pub charged : (device : Device) → IsCharged book device
 
-abbrev pub IsWhole : {D : Type 0} → (D → Disk) → (D → Counts) → BookState D → Type 0
-IsWhole disk counts book = Whole (seen disk counts book)
+abbrev pub IsWhole : {D E : Type 0} → Senses D E → BookState (BenchState D E) → Type 0
+IsWhole senses book = Whole (seen senses book)
 
 -- how many turns a command has at most; each directory that it removes counts for itself
-abbrev pub turns_of_task : Task → ℕ
-turns_of_task (User task) = left_of task
-turns_of_task (Recovery recovery) = recovery_left recovery
-turns_of_task (Refusal reply) = 1
-turns_of_task Fault = 1
+abbrev pub turns_of_task : NamedPlaces → Task → ℕ
+turns_of_task places (User task) = (rest_of task).left
+turns_of_task places (Recovery recovery) = recovery_left places recovery
+turns_of_task places (Refusal reply) = 1
+turns_of_task places (Fault device held) = 1
 
-abbrev pub turns_of : Running → ℕ
-turns_of it = turns_of_task it.task
+abbrev pub turns_of : NamedPlaces → Running → ℕ
+turns_of places it = turns_of_task places it.task
 
--- a bound on the turns that can still be made without a further command: a queued command has at most 15, and each
--- directory that is there may have to be cleared
-abbrev pub turns_left : {D : Type 0} → (D → Disk) → BookState D → ℕ
-turns_left disk book = map.len (view (disk book.tree)) + 15 * total_by length (map.values book.docket.waiting)
-    + total_by turns_of (map.values book.docket.running)
+-- the most turns that a command has which waits, its beginning among them
+abbrev pub most_turns : ℕ
+most_turns = max_places + 40
+
+-- a bound on the turns that can still be made without a further command: each directory that is there may have to be
+-- removed
+abbrev pub turns_left : Plain → ℕ
+turns_left book = map.len (view book.bench.disk) + most_turns * total_by length (map.values book.docket.waiting)
+    + total_by (turns_of book.bench.places) (map.values book.docket.running)

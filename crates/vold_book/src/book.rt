@@ -1,125 +1,158 @@
-ghost use Rattle.std.specs.Prelude.{◌≡◌, ◌≢◌, ◌↔◌, ◌<◌, ◌≤◌, [], Err, IsSome, IsNone, IsTrue, IfOk, OnOk, OnErr};
-ghost use Rattle.std.specs.Prelude.{length, slice_get, Some, None};
+ghost use Rattle.bench.specs.Bench.{listed as listed_more};
+ghost use Rattle.vold_book.specs.Tasks.{blobs_in};
+ghost use Rattle.std.specs.Prelude.{◌≡◌, ◌≢◌, ◌+◌, ◌^◌, ◌↔◌, ◌<◌, ◌≤◌, [], Err, IsSome, IsNone, IsTrue};
+ghost use Rattle.std.specs.Prelude.{IfOk, OnOk, OnErr, length, slice_get, cond, Some, None};
 ghost use Rattle.std.specs.FinMap as map;
 ghost use Rattle.journal_model.specs.Command.{user_in};
 ghost use Rattle.journal_model.specs.Machine.{TakesTurn};
 ghost use Rattle.journal_model.specs.Refusals.{refusal_of};
 ghost use Rattle.journal_model.specs.declared.phase.Phase.TheVariants.{Up, Halted};
 ghost use Rattle.docket.specs.Docket.{begun_by, IsNextBusy};
+ghost use Rattle.keystore_model.specs.Store.{empty_store, listed};
 ghost use Rattle.tree_model.specs.Counted.{IsCounted};
 ghost use Rattle.tree_model.specs.Disk.{view};
-ghost use Rattle.user_world.specs.declared.turns.Next.TheVariants.{Call as CallNext, Reply as ReplyNext};
+ghost use Rattle.task_turns.specs.declared.next.Next.TheVariants.{Call as CallNext, Reply as ReplyNext};
+ghost use Rattle.vold_book.specs.Recovery.{max_commands};
 ghost use Rattle.vold_book.specs.Stands.{standing_of, IsLooked};
-ghost use Rattle.vold_book.specs.State.{seen};
-ghost use Rattle.vold_book.specs.Calls.{entry_of};
-ghost use Rattle.vold_book.specs.Steps.{IsStep, as_recovery, as_user, GoesOn, RepliesTo};
-ghost use Rattle.vold_book.specs.Tasks.{Plans};
+ghost use Rattle.vold_book.specs.State.{seen, senses};
+ghost use Rattle.vold_book.specs.Steps.{IsStep, GoesOn, RepliesTo, IsPlanned, RepliesNext};
 ghost use Rattle.vold_book.specs.Stops.{IsStopped, IsRestarted};
-ghost use Rattle.vold_book.specs.Turns.{new_book, opened_at, with_command, IsEnqueued, facts_in, user_there};
-ghost use Rattle.vold_book.specs.Turns.{AcceptedTask, FirstTask, Begins, Makes, made_entry, task_after, Answers};
-ghost use Rattle.vold_book.specs.Turns.{LeavesOthers, Falls, ComesUp, IsSame};
-ghost use Rattle.vold_book.specs.Whole.{IsWhole, max_commands};
+ghost use Rattle.vold_book.specs.Turns.{new_book, new_bench, opened_at, with_command, IsEnqueued, facts_in};
+ghost use Rattle.vold_book.specs.Turns.{user_there, AcceptedTask};
+ghost use Rattle.vold_book.specs.Turns.{FirstTask, unlisted, Begins, Answers, LeavesOthers, Falls, ComesUp, IsSame};
+ghost use Rattle.vold_book.specs.Whole.{IsWhole};
 
-use crate::calls;
+use crate::entries::entry_of;
 use crate::ledger::Ledger;
-use crate::opened::Opened;
-use crate::places::{self, Places};
+use crate::opened::{Counted, Opened};
+use crate::plans::{self, Plan, Planned};
 use crate::recovery::Recovery;
 use crate::standings::{self, Standing};
-use crate::tasks::{Running, Task};
+use crate::sweeping;
+use crate::tasks::{Held, Running, Task, fault_of};
 use crate::tracker::Tracker;
 use crate::turns::{Step, Turn};
+use bench::Bench;
+use deferred_delete::Deferred;
 use docket::Docket;
 use journal_model::{
-    Actor, Birth, Command, EnqueueFault, Entry, Facts, Journal, Order, Phase, Reply, refusal,
+    Actor, Birth, Command, EnqueueFault, Entry, Facts, Journal, Order, Phase, Reply, boot_seed,
+    refusal,
 };
-use sorted_map::SortedMap;
+use keystore_model::{Keystore, Tag};
 use std::alloc::Global;
 use std::marker::Model;
-use tree_model::{Bytes, Cut, DevFault, Dir, NoMemory, Place, TreeDisk};
+use task_turns::{Call, Next};
+use tree_model::{Blob, Bytes, Cut, DevFault, Dir, NoMemory, Place, TreeDisk};
 use user_tasks::UserTask;
-use user_world::{Call, LocalChange, Next};
+use user_world::LocalChange;
 
 /// The most commands that a Book numbers.
 pub const MAX_COMMANDS: usize = 65_536;
 
-/// The device, what was done on it, the actors with their queues and running commands, and what the journal says of
+/// The devices, what was done on them, the actors with their queues and running commands, and what the journal says of
 /// the machine.
 #[derive(Drop)]
-pub struct Book<T: TreeDisk> {
+pub struct Book<T: TreeDisk, K: Keystore> {
     alloc: Global,
-    tree: T,
+    bench: Bench<T, K>,
     opened: Opened,
     seed: Bytes,
     ledger: Ledger,
     docket: Docket<Actor, Command, Running>,
     tracker: Tracker,
-    places: Places,
 }
 
-impl<T: TreeDisk> Model for Book<T> {
+impl<T: TreeDisk, K: Keystore> Model for Book<T, K> {
     ghost use Rattle.std.specs.Coded.{codes};
     ghost use Rattle.std.specs.FinMap as map;
     ghost use Rattle.journal_model.specs.Actor.{actor_code};
     ghost use Rattle.tree_model.specs.Order.{place_code};
+    ghost use Rattle.bench.specs.Bench.{BenchState};
     ghost use Rattle.vold_book.specs.contracts.opened.Opened as opened_type;
     ghost use Rattle.vold_book.specs.contracts.tasks.Running as running_type;
     ghost use Rattle.vold_book.specs.State.{BookState};
 
-    ghost Value = { BookState T };
+    ghost Value = { BookState (BenchState T K) };
 
-    ghost coded = { Prim.hlevel
-        (codes, T.code, map.code, actor_code, place_code, opened_type.the_row.coded, running_type.the_row.coded) };
+    ghost coded = { Prim.hlevel (
+      codes,
+      T.code,
+      K.code,
+      map.code,
+      actor_code,
+      place_code,
+      opened_type.the_row.coded,
+      running_type.the_row.coded,
+    ) };
 
-    ghost use Rattle.vold_book.specs.State.{Parts, book_of};
+    ghost use Rattle.vold_book.specs.State.{senses, book_of};
     ghost use Rattle.vold_book.specs.Whole.{IsWhole};
 
-    ghost view = { λ book. book_of
-        (record {
-          tree = book.tree;
-          opened = book.opened;
-          seed = book.seed;
-          ledger = book.ledger.now;
-          docket = book.docket;
-          tracker = book.tracker.now;
-          places = book.places;
-        }) };
+    ghost view = { λ book. book_of (record {
+      tree = book.bench.tree;
+      store = book.bench.store;
+      places = book.bench.table.places;
+      list = book.bench.list;
+      opened = book.opened;
+      seed = book.seed;
+      boot_seed = book.bench.seed;
+      ledger = book.ledger.now;
+      docket = book.docket;
+      tracker = book.tracker.now;
+    }) };
 
-    ghost invariant = { λ book. IsWhole T.disk T.counts
-        (book_of (record {
-          tree = book.tree;
-          opened = book.opened;
-          seed = book.seed;
-          ledger = book.ledger.now;
-          docket = book.docket;
-          tracker = book.tracker.now;
-          places = book.places;
-        })) };
+    ghost invariant = { λ book. IsWhole (senses T.disk T.counts K.store K.counts) (book_of (record {
+      tree = book.bench.tree;
+      store = book.bench.store;
+      places = book.bench.table.places;
+      list = book.bench.list;
+      opened = book.opened;
+      seed = book.seed;
+      boot_seed = book.bench.seed;
+      ledger = book.ledger.now;
+      docket = book.docket;
+      tracker = book.tracker.now;
+    })) };
 }
 
-impl<T: TreeDisk> Book<T> {
-    /// An open Book with an empty journal, over a tree device that holds nothing. The level of a machine that never
-    /// stopped is 1.
-    pub fn open(alloc: Global, tree: T, seed: Bytes, level: u32) -> Result<Book<T>, NoMemory>
+impl<T: TreeDisk, K: Keystore> Book<T, K> {
+    /// An open Book with an empty journal, over a tree device and a keystore that hold nothing. The level of a machine
+    /// that never stopped is 1.
+    pub fn open(
+        alloc: Global,
+        tree: T,
+        store: K,
+        seed: Bytes,
+        level: u32,
+    ) -> Result<Book<T, K>, NoMemory>
         requires tree { T.disk tree ≡ record { stable = map.empty; pending = [] } }
+        requires store { K.store store ≡ empty_store level }
         requires seed { length seed ≤ 64 }
         requires level { level ≡ 1 }
-        ensures opened { IfOk result (λ book. book ≡ new_book tree (opened_at (T.counts tree)) seed) }
-        ensures whole { IfOk result (IsWhole T.disk T.counts) }
+        ensures opened { IfOk result (λ book. book
+            ≡ new_book (new_bench tree store) (opened_at (T.counts tree) (K.counts store)) seed) }
+        ensures whole { IfOk result (IsWhole (senses T.disk T.counts K.store K.counts)) }
     {
         let opened = Opened {
-            calls: tree.calls(),
-            faults: tree.faults(),
+            tree: Counted {
+                calls: tree.calls(),
+                faults: tree.faults(),
+            },
+            store: Counted {
+                calls: store.calls(),
+                faults: store.faults(),
+            },
         };
+        let boot_seed = boot_seed(seed.as_slice(), 0);
         Ok(Book {
             alloc,
-            tree,
+            bench: Bench::new(tree, store, boot_seed, alloc),
             opened,
             seed,
             ledger: Ledger::new(alloc),
             docket: Docket::new(alloc),
             tracker: Tracker::new(alloc, level),
-            places: SortedMap::new(alloc),
         })
     }
 
@@ -127,7 +160,7 @@ impl<T: TreeDisk> Book<T> {
     /// given out. On a refusal the command is given up and nothing else changes.
     pub fn enqueue(&mut self, command: Command) -> Result<u64, EnqueueFault>
         ensures answer { IsEnqueued self.old self.new command result }
-        ensures whole { IsWhole T.disk T.counts self.new }
+        ensures whole { IsWhole (senses T.disk T.counts K.store K.counts) self.new }
     {
         if self.is_full() {
             return Err(EnqueueFault::Full);
@@ -142,7 +175,7 @@ impl<T: TreeDisk> Book<T> {
     pub fn is_full(&self) -> bool
         ensures full { IsTrue result ↔ (length self.now.docket.commands ≡ max_commands) }
         ensures few { length self.now.docket.commands ≤ max_commands }
-        ensures whole { IsWhole T.disk T.counts self.now }
+        ensures whole { IsWhole (senses T.disk T.counts K.store K.counts) self.now }
     {
         self.docket.count() == MAX_COMMANDS
     }
@@ -153,20 +186,23 @@ impl<T: TreeDisk> Book<T> {
         ensures number { IfOk result (λ number. number ≡ length self.old.docket.commands) }
         ensures queued { OnOk result (self.new ≡ with_command self.old command) }
         ensures refused { OnErr result (self.new ≡ self.old) }
-        ensures whole { IsWhole T.disk T.counts self.new }
+        ensures whole { IsWhole (senses T.disk T.counts K.store K.counts) self.new }
     {
         self.docket.enqueue(command.actor(), command)
     }
 
-    /// Makes the actor's next turn. Want of memory leaves the Book and the device as they were, and the call may be
+    /// Makes the actor's next turn. Want of memory leaves the Book and the devices as they were, and the call may be
     /// made again.
     pub fn advance(&mut self, actor: Actor) -> Result<Turn, NoMemory>
-        ensures turn { IfOk result (Answers T.counts self.old self.new actor) }
-        ensures others { OnOk result (LeavesOthers T.disk self.old self.new actor) }
-        ensures falls { IfOk result (Falls T.disk self.old self.new) }
-        ensures ready { OnOk result (ComesUp T.disk self.old self.new) }
-        ensures refused { OnErr result (IsSame T.disk T.counts self.old self.new) }
-        ensures whole { IsWhole T.disk T.counts self.new }
+        ensures turn { IfOk result (Answers (senses T.disk T.counts K.store K.counts) self.old self.new actor) }
+        ensures others { OnOk result (LeavesOthers (seen (senses T.disk T.counts K.store K.counts) self.old)
+            (seen (senses T.disk T.counts K.store K.counts) self.new) actor) }
+        ensures falls { IfOk result (Falls (seen (senses T.disk T.counts K.store K.counts) self.old)
+            (seen (senses T.disk T.counts K.store K.counts) self.new)) }
+        ensures ready { OnOk result (ComesUp (seen (senses T.disk T.counts K.store K.counts) self.old)
+            (seen (senses T.disk T.counts K.store K.counts) self.new)) }
+        ensures refused { OnErr result (IsSame (senses T.disk T.counts K.store K.counts) self.old self.new) }
+        ensures whole { IsWhole (senses T.disk T.counts K.store K.counts) self.new }
     {
         match self.next_step(actor) {
             Step::Idle => Ok(Turn::Idle),
@@ -175,8 +211,8 @@ impl<T: TreeDisk> Book<T> {
                 self.begin(actor)?;
                 Ok(Turn::Went)
             }
-            Step::GoOn(it) => {
-                self.go_on(actor, it)?;
+            Step::GoOn => {
+                self.go_on(actor)?;
                 Ok(Turn::Went)
             }
         }
@@ -185,10 +221,10 @@ impl<T: TreeDisk> Book<T> {
     /// What the actor's next turn does.
     fn next_step(&self, actor: Actor) -> Step
         ensures step { IsStep self.now actor result }
-        ensures whole { IsWhole T.disk T.counts self.now }
+        ensures whole { IsWhole (senses T.disk T.counts K.store K.counts) self.now }
     {
-        match self.docket.running(actor).copied() {
-            Some(it) => Step::GoOn(it),
+        match self.docket.running(actor) {
+            Some(_) => Step::GoOn,
             None if !self.docket.is_waiting(actor) => Step::Idle,
             None if self.tracker.phase().takes(actor) => Step::Begin,
             None => Step::Waits,
@@ -202,7 +238,7 @@ impl<T: TreeDisk> Book<T> {
         requires takes { TakesTurn self.old.tracker.phase actor }
         ensures begun { OnOk result (Begins self.old self.new actor) }
         ensures refused { OnErr result (self.new ≡ self.old) }
-        ensures whole { IsWhole T.disk T.counts self.new }
+        ensures whole { IsWhole (senses T.disk T.counts K.store K.counts) self.new }
     {
         let number = self.docket.first(actor);
         let command = self.docket.command(number).duplicate(self.alloc)?;
@@ -210,9 +246,11 @@ impl<T: TreeDisk> Book<T> {
             boot: self.tracker.boot(),
             index: self.docket.begun(actor),
         };
-        let task = self.first_task(&command, birth);
+        let task = self.first_task(&command, number, birth)?;
         self.ledger.reserve()?;
+        let anew = task.begins_anew();
         self.docket.begin(actor, Running { number, task })?;
+        begin_on(&mut self.bench, anew);
         self.ledger.enter(Entry::Began {
             number,
             actor,
@@ -222,110 +260,133 @@ impl<T: TreeDisk> Book<T> {
     }
 
     /// What a command that begins does first: its refusal where one is due, and else its first turn.
-    fn first_task(&self, command: &Command, birth: Birth) -> Task
-        ensures { FirstTask command.now birth (refusal_of command.now (facts_in self.now command.now)) result }
+    fn first_task(&self, command: &Command, number: u64, birth: Birth) -> Result<Task, NoMemory>
+        requires { number < max_commands }
+        ensures { IfOk result (FirstTask command.now birth self.now.boot_seed
+            (refusal_of command.now (facts_in self.now.bench.places self.now command.now))) }
     {
         let facts = Facts {
             present: self.is_there(command.user()),
             ready: self.tracker.phase() == Phase::Up,
         };
         match refusal(command, facts) {
-            Some(reply) => Task::Refusal(reply),
-            None => accepted_task(command, birth),
+            Some(reply) => Ok(Task::Refusal(reply)),
+            None => self.accepted_task(command, number, birth),
+        }
+    }
+
+    /// What a command does first that isn't refused.
+    fn accepted_task(&self, command: &Command, number: u64, birth: Birth) -> Result<Task, NoMemory>
+        requires { number < max_commands }
+        ensures { IfOk result (AcceptedTask command.now birth self.now.boot_seed (user_in command.now)) }
+    {
+        match user_tasks::first(self.alloc, command, number, birth, &self.bench.seed)? {
+            Some(task) => Ok(Task::User(task)),
+            None => Ok(Task::Recovery(Recovery::Listing)),
         }
     }
 
     /// Whether the user, if there is one, has a device key's directory.
     fn is_there(&self, user: Option<u32>) -> bool
-        ensures { result ≡ user_there self.now.places user }
+        ensures { result ≡ user_there self.now.bench.places user }
     {
         match user {
-            Some(user) => self.places.contains_key(Place::De(user)),
+            Some(user) => self.bench.table.has(Place::De(user)),
             None => false,
         }
     }
 
-    /// Makes the next turn of the actor's command.
-    fn go_on(&mut self, actor: Actor, it: Running) -> Result<(), NoMemory>
-        requires { map.get self.old.docket.running actor ≡ Some it }
-        ensures turned { OnOk result (GoesOn T.disk T.counts self.old self.new actor it) }
-        ensures refused { OnErr result (IsSame T.disk T.counts self.old self.new) }
-        ensures whole { IsWhole T.disk T.counts self.new }
+    /// Makes the next turn of the command that the actor runs.
+    fn go_on(&mut self, actor: Actor) -> Result<(), NoMemory>
+        requires { IsSome (map.get self.old.docket.running actor) }
+        ensures turned { OnOk result (GoesOn (senses T.disk T.counts K.store K.counts) self.old self.new actor) }
+        ensures refused { OnErr result (IsSame (senses T.disk T.counts K.store K.counts) self.old self.new) }
+        ensures whole { IsWhole (senses T.disk T.counts K.store K.counts) self.new }
     {
-        match self.planned(actor, it)? {
-            Next::Call { call, change, then } => self.call(actor, it, call, change, then),
-            Next::Reply(reply) => self.reply(actor, it, reply),
+        let Planned { task, plan } = self.planned(actor)?;
+        match plan {
+            Plan::Call { call, change } => self.call(actor, task, call, change),
+            Plan::Reply(reply) => self.reply(actor, reply),
         }
     }
 
     /// What the actor's command does next, which shows what it has to.
-    fn planned(&self, actor: Actor, it: Running) -> Result<Next<Task>, NoMemory>
-        requires { map.get self.now.docket.running actor ≡ Some it }
-        ensures plans { IfOk result (Plans (seen T.disk T.counts self.now) actor it) }
-        ensures whole { IsWhole T.disk T.counts self.now }
+    fn planned(&self, actor: Actor) -> Result<Planned, NoMemory>
+        requires { IsSome (map.get self.now.docket.running actor) }
+        ensures plans { IfOk result (IsPlanned (seen (senses T.disk T.counts K.store K.counts) self.now) actor) }
+        ensures whole { IsWhole (senses T.disk T.counts K.store K.counts) self.now }
     {
-        let dirty = self.tracker.is_dirty();
-        match it.task {
+        let Some(it) = self.docket.running(actor) else {
+            unreachable!()
+        };
+        match &it.task {
             Task::User(task) => {
-                let site = places::site_in_the_way(&self.places, task.user());
-                Ok(as_user(task.next(self.alloc, self.seed.as_slice(), site)?))
+                let site = sweeping::site_in_the_way(&self.bench.table, task.user());
+                plans::planned_user(self.alloc, task, site)
             }
-            Task::Recovery(recovery) => Ok(as_recovery(recovery.next(&self.places, dirty))),
-            Task::Refusal(reply) => Ok(Next::Reply(reply)),
-            Task::Fault => Ok(Next::Reply(Reply::TreeFault)),
+            Task::Recovery(recovery) => {
+                let next = recovery.next(&self.bench.table, self.tracker.is_dirty());
+                Ok(plans::with_no_job(next))
+            }
+            Task::Refusal(reply) => Ok(plans::with_no_job(Next::Reply(*reply))),
+            Task::Fault(device, _) => Ok(plans::with_no_job(Next::Reply(fault_of(*device)))),
         }
     }
 
-    /// Makes the call of the actor's command.
+    /// Makes the call of the command that the actor runs; `task` is the user's task with its job done, where it asked
+    /// for one.
     fn call(
         &mut self,
         actor: Actor,
-        it: Running,
+        task: Option<UserTask>,
         call: Call,
         change: Option<LocalChange>,
-        then: Task,
     ) -> Result<(), NoMemory>
-        requires { Plans (seen T.disk T.counts self.old) actor it (CallNext call change then) }
-        ensures called { OnOk result (Makes T.disk T.counts self.old self.new actor it.number call change then) }
-        ensures refused { OnErr result (IsSame T.disk T.counts self.old self.new) }
-        ensures whole { IsWhole T.disk T.counts self.new }
+        requires { IsPlanned (seen (senses T.disk T.counts K.store K.counts) self.old) actor
+            (record { task = task; plan = Plan.Call call change }) }
+        ensures called { OnOk result (GoesOn (senses T.disk T.counts K.store K.counts) self.old self.new actor) }
+        ensures refused { OnErr result (IsSame (senses T.disk T.counts K.store K.counts) self.old self.new) }
+        ensures whole { IsWhole (senses T.disk T.counts K.store K.counts) self.new }
     {
         self.ledger.reserve()?;
         self.tracker.reserve()?;
-        self.places.reserve(1)?;
-        let made = calls::make(self.alloc, &mut self.tree, &mut self.places, &call)?;
-        let entry = made_entry(made, &call, change, it.number);
+        let made = self.bench.make(self.alloc, &call)?;
+        let it = self.docket.set(actor, Running::none());
+        let entry = entry_of(&made, &call, change, it.number);
         self.ledger.note(actor, entry);
-        self.tracker.note(&call, made, change.is_some());
+        self.tracker.note(&call, made.was_done(), change.is_some());
+        let now = it.task.worked(task);
         let running = Running {
             number: it.number,
-            task: task_after(made, then),
+            task: now.after(&call, made),
         };
         self.docket.set(actor, running);
         Ok(())
     }
 
-    /// Gives the reply of the actor's command.
-    fn reply(&mut self, actor: Actor, it: Running, reply: Reply) -> Result<(), NoMemory>
-        requires { Plans (seen T.disk T.counts self.old) actor it (ReplyNext reply) }
-        ensures replied { OnOk result (RepliesTo self.old self.new actor it reply) }
+    /// Gives the reply of the command that the actor runs; one that failed lists what it held.
+    fn reply(&mut self, actor: Actor, reply: Reply) -> Result<(), NoMemory>
+        requires { RepliesNext (seen (senses T.disk T.counts K.store K.counts) self.old) actor reply }
+        ensures replied { OnOk result (GoesOn (senses T.disk T.counts K.store K.counts) self.old self.new actor) }
         ensures refused { OnErr result (self.new ≡ self.old) }
-        ensures whole { IsWhole T.disk T.counts self.new }
+        ensures whole { IsWhole (senses T.disk T.counts K.store K.counts) self.new }
     {
+        let Some(it) = self.docket.running(actor) else {
+            unreachable!()
+        };
         self.ledger.reserve()?;
-        self.tracker.reply(self.docket.command(it.number), reply);
+        list_held(&mut self.bench.list, it.task.failed_with())?;
+        let number = it.number;
+        self.tracker.reply(self.docket.command(number), reply);
         self.docket.end(actor);
-        self.ledger.enter(Entry::Replied {
-            number: it.number,
-            reply,
-        });
+        self.ledger.enter(Entry::Replied { number, reply });
         Ok(())
     }
 
     /// The first actor that has a running command or a queue, in the order of actors.
     pub fn first_busy(&self) -> Option<Actor>
         ensures busy { IsNextBusy self.now.docket None result }
-        ensures whole { IsWhole T.disk T.counts self.now }
+        ensures whole { IsWhole (senses T.disk T.counts K.store K.counts) self.now }
     {
         self.docket.next_busy(None)
     }
@@ -333,7 +394,7 @@ impl<T: TreeDisk> Book<T> {
     /// The next such actor after another.
     pub fn next_busy(&self, after: Actor) -> Option<Actor>
         ensures busy { IsNextBusy self.now.docket (Some after) result }
-        ensures whole { IsWhole T.disk T.counts self.now }
+        ensures whole { IsWhole (senses T.disk T.counts K.store K.counts) self.now }
     {
         self.docket.next_busy(Some(after))
     }
@@ -341,7 +402,7 @@ impl<T: TreeDisk> Book<T> {
     /// The journal so far.
     pub fn journal(&self) -> &Journal
         ensures entries { result.now.entries ≡ self.now.ledger.entries }
-        ensures whole { IsWhole T.disk T.counts self.now }
+        ensures whole { IsWhole (senses T.disk T.counts K.store K.counts) self.now }
     {
         self.ledger.journal()
     }
@@ -349,7 +410,7 @@ impl<T: TreeDisk> Book<T> {
     /// The actor of each counted call that `advance` made, in order.
     pub fn callers(&self) -> &[Actor]
         ensures callers { result.now ≡ self.now.ledger.callers }
-        ensures whole { IsWhole T.disk T.counts self.now }
+        ensures whole { IsWhole (senses T.disk T.counts K.store K.counts) self.now }
     {
         self.ledger.callers()
     }
@@ -357,7 +418,7 @@ impl<T: TreeDisk> Book<T> {
     /// What was given to `stop`, in order.
     pub fn orders(&self) -> &[Order]
         ensures orders { result.now ≡ self.now.ledger.orders }
-        ensures whole { IsWhole T.disk T.counts self.now }
+        ensures whole { IsWhole (senses T.disk T.counts K.store K.counts) self.now }
     {
         self.ledger.orders()
     }
@@ -365,7 +426,7 @@ impl<T: TreeDisk> Book<T> {
     /// Where the command of the number stands.
     pub fn standing(&self, number: u64) -> Standing
         ensures standing { result ≡ standing_of self.now number }
-        ensures whole { IsWhole T.disk T.counts self.now }
+        ensures whole { IsWhole (senses T.disk T.counts K.store K.counts) self.now }
     {
         if number < self.docket.count() as u64 {
             standings::stands_in(self.ledger.journal().as_slice(), number)
@@ -377,7 +438,7 @@ impl<T: TreeDisk> Book<T> {
     /// Whether the machine takes every command: it never stopped, or a recovery ended since it started again.
     pub fn ready(&self) -> bool
         ensures ready { IsTrue result ↔ (self.now.tracker.phase ≡ Up) }
-        ensures whole { IsWhole T.disk T.counts self.now }
+        ensures whole { IsWhole (senses T.disk T.counts K.store K.counts) self.now }
     {
         self.tracker.phase() == Phase::Up
     }
@@ -385,7 +446,7 @@ impl<T: TreeDisk> Book<T> {
     /// Whether the machine stopped and didn't start again.
     pub fn stopped(&self) -> bool
         ensures stopped { IsTrue result ↔ (self.now.tracker.phase ≡ Halted) }
-        ensures whole { IsWhole T.disk T.counts self.now }
+        ensures whole { IsWhole (senses T.disk T.counts K.store K.counts) self.now }
     {
         self.tracker.phase() == Phase::Halted
     }
@@ -393,7 +454,7 @@ impl<T: TreeDisk> Book<T> {
     /// How often the machine started again.
     pub fn boot(&self) -> u64
         ensures boot { result ≡ self.now.tracker.boot }
-        ensures whole { IsWhole T.disk T.counts self.now }
+        ensures whole { IsWhole (senses T.disk T.counts K.store K.counts) self.now }
     {
         self.tracker.boot()
     }
@@ -401,7 +462,7 @@ impl<T: TreeDisk> Book<T> {
     /// The machine's level, at which it may start again.
     pub fn level(&self) -> u32
         ensures level { result ≡ self.now.tracker.level }
-        ensures whole { IsWhole T.disk T.counts self.now }
+        ensures whole { IsWhole (senses T.disk T.counts K.store K.counts) self.now }
     {
         self.tracker.level()
     }
@@ -412,12 +473,13 @@ impl<T: TreeDisk> Book<T> {
     ///
     /// Those of the device's `list`. Nothing but the device's counts changes, whatever the answer.
     pub fn places(&mut self) -> Result<Vec<Place>, DevFault>
-        ensures listed { IfOk result (λ places. places.items ≡ map.keys (view (T.disk self.old.tree))) }
-        ensures same { IsLooked T.disk self.old self.new }
-        ensures counted { IsCounted (T.counts self.old.tree) (T.counts self.new.tree) result }
-        ensures whole { IsWhole T.disk T.counts self.new }
+        ensures listed { IfOk result (λ places. places.items ≡ map.keys (view (T.disk self.old.bench.tree))) }
+        ensures same { IsLooked (senses T.disk T.counts K.store K.counts) self.old self.new }
+        ensures counted { IsCounted (T.counts self.old.bench.tree) (T.counts self.new.bench.tree) result }
+        ensures store { self.new.bench.store ≡ self.old.bench.store }
+        ensures whole { IsWhole (senses T.disk T.counts K.store K.counts) self.new }
     {
-        self.tree.list(self.alloc)
+        self.bench.tree.list(self.alloc)
     }
 
     /// The directory at a place of the view, as the device reads it.
@@ -426,30 +488,56 @@ impl<T: TreeDisk> Book<T> {
     ///
     /// Those of the device's `read`. Nothing but the device's counts changes, whatever the answer.
     pub fn read_place(&mut self, place: Place) -> Result<Dir, DevFault>
-        requires { IsSome (map.get (view (T.disk self.old.tree)) place) }
-        ensures found { IfOk result (λ files. map.get (view (T.disk self.old.tree)) place ≡ Some files) }
-        ensures same { IsLooked T.disk self.old self.new }
-        ensures counted { IsCounted (T.counts self.old.tree) (T.counts self.new.tree) result }
-        ensures whole { IsWhole T.disk T.counts self.new }
+        requires { IsSome (map.get (view (T.disk self.old.bench.tree)) place) }
+        ensures found { IfOk result (λ files. map.get (view (T.disk self.old.bench.tree)) place ≡ Some files) }
+        ensures same { IsLooked (senses T.disk T.counts K.store K.counts) self.old self.new }
+        ensures counted { IsCounted (T.counts self.old.bench.tree) (T.counts self.new.bench.tree) result }
+        ensures store { self.new.bench.store ≡ self.old.bench.store }
+        ensures whole { IsWhole (senses T.disk T.counts K.store K.counts) self.new }
     {
-        self.tree.read(self.alloc, place)
+        self.bench.tree.read(self.alloc, place)
     }
 
-    /// The device, for looks.
+    /// The blobs and tags of the keystore's entries, in order, as the device lists them.
+    ///
+    /// # Errors
+    ///
+    /// Those of the device's `list`. Nothing but the device's counts changes, whatever the answer.
+    pub fn blobs(&mut self) -> Result<Vec<(Blob, Tag)>, DevFault>
+        ensures listed { IfOk result (λ rows. rows.items ≡ listed (K.store self.old.bench.store)) }
+        ensures same { IsLooked (senses T.disk T.counts K.store K.counts) self.old self.new }
+        ensures counted { IsCounted (K.counts self.old.bench.store) (K.counts self.new.bench.store) result }
+        ensures tree { self.new.bench.tree ≡ self.old.bench.tree }
+        ensures whole { IsWhole (senses T.disk T.counts K.store K.counts) self.new }
+    {
+        self.bench.store.list(self.alloc)
+    }
+
+    /// The tree device, for looks.
     pub fn tree(&self) -> &T
-        ensures tree { result.now ≡ self.now.tree }
-        ensures whole { IsWhole T.disk T.counts self.now }
+        ensures tree { result.now ≡ self.now.bench.tree }
+        ensures whole { IsWhole (senses T.disk T.counts K.store K.counts) self.now }
     {
-        &self.tree
+        &self.bench.tree
     }
 
-    /// The journal and the device.
-    pub fn into_parts(self) -> (Journal, T)
-        ensures journal { result.0.entries ≡ self.ledger.entries }
-        ensures tree { result.1 ≡ self.tree }
-        ensures whole { IsWhole T.disk T.counts self }
+    /// The keystore, for looks.
+    pub fn store(&self) -> &K
+        ensures store { result.now ≡ self.now.bench.store }
+        ensures whole { IsWhole (senses T.disk T.counts K.store K.counts) self.now }
     {
-        (self.ledger.into_journal(), self.tree)
+        &self.bench.store
+    }
+
+    /// The journal and the devices.
+    pub fn into_parts(self) -> (Journal, T, K)
+        ensures journal { result.0.entries ≡ self.ledger.entries }
+        ensures tree { result.1 ≡ self.bench.tree }
+        ensures store { result.2 ≡ self.bench.store }
+        ensures whole { IsWhole (senses T.disk T.counts K.store K.counts) self }
+    {
+        let Book { bench, ledger, .. } = self;
+        (ledger.into_journal(), bench.tree, bench.store)
     }
 
     /// The machine stops. Of the operations since the last sync the first `cut.keep` stay, each write with the bytes
@@ -460,14 +548,15 @@ impl<T: TreeDisk> Book<T> {
     /// Where memory ran out, nothing changed.
     pub fn stop(&mut self, cut: Cut) -> Result<(), NoMemory>
         requires { self.old.tracker.phase ≢ Halted }
-        ensures stopped { OnOk result (IsStopped T.disk T.counts self.old self.new cut) }
-        ensures refused { OnErr result (IsSame T.disk T.counts self.old self.new) }
-        ensures whole { IsWhole T.disk T.counts self.new }
+        ensures stopped { OnOk result (IsStopped (senses T.disk T.counts K.store K.counts) self.old self.new cut) }
+        ensures refused { OnErr result (IsSame (senses T.disk T.counts K.store K.counts) self.old self.new) }
+        ensures whole { IsWhole (senses T.disk T.counts K.store K.counts) self.new }
     {
         let order = Order::Stop(cut.duplicate(self.alloc)?);
         self.ledger.reserve()?;
         let kept = self.tracker.survivors(cut.keep);
-        self.tree.stop(cut);
+        self.bench.tree.stop(cut);
+        self.bench.list.clear();
         self.docket.stop();
         self.tracker.stop(kept);
         self.ledger.order(order, Entry::Stopped { kept });
@@ -481,10 +570,11 @@ impl<T: TreeDisk> Book<T> {
         requires stopped { self.old.tracker.phase ≡ Halted }
         requires level { level ≡ self.old.tracker.level }
         ensures number { IfOk result (λ number. number ≡ length self.old.docket.commands) }
-        ensures restarted { OnOk result (IsRestarted T.disk T.counts self.old self.new level) }
+        ensures restarted { OnOk result
+            (IsRestarted (senses T.disk T.counts K.store K.counts) self.old self.new level) }
         ensures refused { OnErr result (self.new ≡ self.old) }
         ensures full { (result ≡ Err EnqueueFault.Full) ↔ (length self.old.docket.commands ≡ max_commands) }
-        ensures whole { IsWhole T.disk T.counts self.new }
+        ensures whole { IsWhole (senses T.disk T.counts K.store K.counts) self.new }
     {
         if self.is_full() {
             return Err(EnqueueFault::Full);
@@ -501,14 +591,16 @@ impl<T: TreeDisk> Book<T> {
         requires level { level ≡ self.old.tracker.level }
         requires few { length self.old.docket.commands < max_commands }
         ensures number { IfOk result (λ number. number ≡ length self.old.docket.commands) }
-        ensures restarted { OnOk result (IsRestarted T.disk T.counts self.old self.new level) }
+        ensures restarted { OnOk result
+            (IsRestarted (senses T.disk T.counts K.store K.counts) self.old self.new level) }
         ensures refused { OnErr result (self.new ≡ self.old) }
-        ensures whole { IsWhole T.disk T.counts self.new }
+        ensures whole { IsWhole (senses T.disk T.counts K.store K.counts) self.new }
     {
         let boot = self.tracker.boot() + 1;
         self.ledger.reserve()?;
         let number = self.docket.enqueue_first(Actor::Boot, Command::Recover)?;
-        self.tree.restart();
+        self.bench.tree.restart();
+        self.bench.seed = boot_seed(self.seed.as_slice(), boot);
         self.docket.restart();
         self.tracker.restart(boot, level);
         self.ledger.enter(Entry::Restarted { boot, level });
@@ -516,58 +608,33 @@ impl<T: TreeDisk> Book<T> {
     }
 }
 
-/// What a command does first that isn't refused.
-fn accepted_task(command: &Command, birth: Birth) -> Task
-    ensures { AcceptedTask command.now birth (user_in command.now) result }
+/// The bench as a command begins: one that begins anew knows nothing of the tree, and finds nothing listed.
+fn begin_on<T: TreeDisk, K: Keystore>(bench: &mut Bench<T, K>, anew: bool)
+    ensures tree { bench.new.tree ≡ bench.old.tree }
+    ensures store { bench.new.store ≡ bench.old.store }
+    ensures seed { bench.new.seed ≡ bench.old.seed }
+    ensures places { bench.new.table.places ≡ cond anew map.empty bench.old.table.places }
+    ensures list { bench.new.list ≡ cond anew (unlisted bench.old.list) bench.old.list }
 {
-    match user_tasks::first(command, birth) {
-        Some(task) => Task::User(task),
-        None => Task::Recovery(Recovery::Listing),
+    if anew {
+        bench.table.clear();
+        bench.list.clear();
     }
 }
 
-/// A user's next turn as a Book's.
-fn as_user(next: Next<UserTask>) -> Next<Task>
-    ensures { result ≡ as_user next }
+/// Lists the blobs that a command held which failed, as synced.
+fn list_held(list: &mut Deferred, held: Held) -> Result<(), NoMemory>
+    requires { list.old.next + list.old.promised + 2 < 2 ^ 63 }
+    ensures listed { OnOk result (list.new ≡ listed_more list.old (blobs_in held)) }
+    ensures refused { OnErr result (list.new ≡ list.old) }
 {
-    match next {
-        Next::Call { call, change, then } => Next::Call {
-            call,
-            change,
-            then: Task::User(then),
-        },
-        Next::Reply(reply) => Next::Reply(reply),
+    let Held { first, second } = held;
+    list.reserve(held.count())?;
+    if let Some(blob) = first {
+        list.push(blob, true);
     }
-}
-
-/// A recovery's next turn as a Book's.
-fn as_recovery(next: Next<Recovery>) -> Next<Task>
-    ensures { result ≡ as_recovery next }
-{
-    match next {
-        Next::Call { call, change, then } => Next::Call {
-            call,
-            change,
-            then: Task::Recovery(then),
-        },
-        Next::Reply(reply) => Next::Reply(reply),
+    if let Some(blob) = second {
+        list.push(blob, true);
     }
-}
-
-/// What a call leads to, or that the next turn tells that the device failed.
-fn task_after(made: bool, then: Task) -> Task
-    ensures { result ≡ task_after made then }
-{
-    if made { then } else { Task::Fault }
-}
-
-/// The entry of a call, where the device did it and it has one.
-fn made_entry(made: bool, call: &Call, change: Option<LocalChange>, number: u64) -> Option<Entry>
-    ensures { result ≡ made_entry made (entry_of number call.now change) }
-{
-    if made {
-        calls::entry_of(call, change, number)
-    } else {
-        None
-    }
+    Ok(())
 }

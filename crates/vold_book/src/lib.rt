@@ -4,13 +4,14 @@
 #![tactic(auto)]
 
 pub mod book;
-pub mod calls;
+pub mod entries;
 pub mod ledger;
 pub mod opened;
-pub mod places;
+pub mod plans;
 pub mod recovery;
 pub mod run_end;
 pub mod standings;
+pub mod sweeping;
 pub mod tasks;
 pub mod tracker;
 pub mod turns;

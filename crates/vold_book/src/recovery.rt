@@ -1,13 +1,14 @@
-ghost use Rattle.std.specs.Prelude.{◌≡◌};
-ghost use Rattle.sorted_map.specs.Maps.{held};
-ghost use Rattle.tree_model.specs.Order.{place_cmp};
+ghost use Rattle.std.specs.Prelude.{◌≡◌, None, slice_get};
+ghost use Rattle.std.specs.FinMap as map;
+ghost use Rattle.task_turns.specs.declared.next.Next.TheVariants.{Call as CallNext};
 ghost use Rattle.tree_model.specs.Tree.{user_of};
-ghost use Rattle.vold_book.specs.Recovery.{RecoveryTurns};
+ghost use Rattle.vold_book.specs.Recovery.{CountsFew, RecoveryTurns, next_read, recovery_after};
 
-use crate::places::{self, Places};
+use crate::sweeping;
 use journal_model::Reply;
+use step_core::Table;
+use task_turns::{Call, Next};
 use tree_model::{LocalOp, Place, Site};
-use user_world::{Call, Next};
 
 /// A recovery on its way: what it does next.
 #[derive(Clone, Copy, Debug, PartialEq, Eq)]
@@ -16,37 +17,69 @@ pub enum Recovery {
     Listing,
     /// It removes what commands left half made.
     Sweeping,
-    /// Nothing is left, and that is durable.
-    Swept,
+    /// It reads the directories that are left, of which it read so many.
+    Reading(u64),
+    /// Every directory is known and durable.
+    Settled,
+    /// What no directory names is listed.
+    Listed,
 }
 
 impl Recovery {
     /// The next turn, from the known places and whether an operation is pending.
-    pub fn next(self, places: &Places, dirty: bool) -> Next<Recovery>
-        ensures { RecoveryTurns (held place_cmp places.now) dirty self result }
+    pub fn next(self, table: &Table, dirty: bool) -> Next
+        ensures { RecoveryTurns table.now.places dirty self result }
     {
         match self {
-            Recovery::Listing => Next::Call {
-                call: Call::List,
-                change: None,
-                then: Recovery::Sweeping,
+            Recovery::Listing => call(Call::List),
+            Recovery::Sweeping => match sweeping::first_left(table) {
+                Some(place) => call(Call::Op {
+                    user: user_of(place),
+                    op: LocalOp::RemoveDir(Site::of(place)),
+                    names: None,
+                }),
+                None => read(table, 0, dirty),
             },
-            Recovery::Sweeping => match places::first_left(places) {
-                Some(place) => Next::Call {
-                    call: Call::Op(user_of(place), LocalOp::RemoveDir(Site::of(place))),
-                    change: None,
-                    then: Recovery::Sweeping,
-                },
-                None if dirty => Next::Call {
-                    call: Call::Sync,
-                    change: None,
-                    then: Recovery::Swept,
-                },
-                None => Next::Reply(Reply::Ended(0)),
-            },
-            Recovery::Swept => Next::Reply(Reply::Ended(0)),
+            Recovery::Reading(count) => read(table, count, dirty),
+            Recovery::Settled => call(Call::Entries),
+            Recovery::Listed => Next::Reply(Reply::Ended(0)),
         }
     }
+
+    /// What it is after a call that was done.
+    pub fn after(self, call: &Call) -> Recovery
+        requires { CountsFew self }
+        ensures { result ≡ recovery_after call.now self }
+    {
+        match call {
+            Call::List => Recovery::Sweeping,
+            Call::Read(_) => match self {
+                Recovery::Reading(count) => Recovery::Reading(count + 1),
+                _ => Recovery::Reading(1),
+            },
+            Call::Sync => Recovery::Settled,
+            Call::Entries => Recovery::Listed,
+            _ => self,
+        }
+    }
+}
+
+/// Reads the next directory; once all are read, everything is made durable, and the keystore's entries are listed.
+fn read(table: &Table, count: u64, dirty: bool) -> Next
+    ensures { result ≡ next_read (slice_get (map.keys table.now.places) count) dirty }
+{
+    match table.places().get(count as usize) {
+        Some(place) => call(Call::Read(*place)),
+        None if dirty => call(Call::Sync),
+        None => call(Call::Entries),
+    }
+}
+
+/// A call that makes no change.
+fn call(call: Call) -> Next
+    ensures { result ≡ CallNext call None }
+{
+    Next::Call { call, change: None }
 }
 
 /// Whose place it is.

@@ -1,10 +1,11 @@
 use crate::book::Book;
+use keystore_model::Keystore;
 use script_text::Status;
 use tree_model::TreeDisk;
 
 /// How a run ended. The Book is there where a script was read whole and the Book was opened.
 #[derive(Drop)]
-pub struct RunEnd<T: TreeDisk> {
+pub struct RunEnd<T: TreeDisk, K: Keystore> {
     pub status: Status,
-    pub book: Option<Book<T>>,
+    pub book: Option<Book<T, K>>,
 }

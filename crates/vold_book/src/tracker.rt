@@ -6,8 +6,8 @@ ghost use Rattle.vold_book.specs.Parts.{new_tracker, count_changes, noted};
 use journal_model::{Command, Phase, Reply};
 use std::alloc::Global;
 use std::marker::Model;
+use task_turns::Call;
 use tree_model::{LocalOp, NoMemory};
-use user_world::Call;
 
 /// What the journal says of the machine, besides what runs on it.
 #[derive(Drop)]
@@ -97,8 +97,11 @@ impl Tracker {
         ensures { self.new.now ≡ noted made call.now change self.old.now }
     {
         match call {
-            Call::Op(_, _) if made => self.pending.push(change).unwrap(),
-            Call::Op(_, LocalOp::Write(_, _, _)) => self.pending.push(false).unwrap(),
+            Call::Op { .. } if made => self.pending.push(change).unwrap(),
+            Call::Op {
+                op: LocalOp::Write(_, _, _),
+                ..
+            } => self.pending.push(false).unwrap(),
             Call::Sync if made => {
                 self.durable += changes_among(self.pending.as_slice());
                 self.pending.clear();

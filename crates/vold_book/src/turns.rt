@@ -1,5 +1,3 @@
-use crate::tasks::Running;
-
 /// What a turn did.
 #[derive(Clone, Copy, Debug, PartialEq, Eq)]
 pub enum Turn {
@@ -20,6 +18,6 @@ pub enum Step {
     Waits,
     /// It begins a command.
     Begin,
-    /// It goes on with this one.
-    GoOn(Running),
+    /// It goes on with the command that it runs.
+    GoOn,
 }

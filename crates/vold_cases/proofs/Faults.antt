@@ -8,7 +8,7 @@ use Rattle.script_text.proofs.Ink.{Lacks-ink, IsInk-decimal}
 use Rattle.std.proofs.lemmas.Fmt.{decimal_injective}
 use Rattle.std.proofs.lemmas.List.{append-nil}
 use Rattle.script_text.specs.Words.{joined}
-use Rattle.vold_cases.specs.declared.case.Device.{Device}
+use Rattle.journal_model.specs.declared.entries.Device.{Device}
 use Rattle.vold_cases.specs.declared.case.Planned.{Planned}
 use Rattle.vold_cases.specs.Case.{IsPlanned, device_word, fault_words}
 

@@ -1,14 +1,15 @@
--- A tree of which the calls of some faults are planned to fail, and those of one more.
+-- A device of which the calls of some faults are planned to fail, and those of one more.
 use Rattle.std.proofs.Common.{◌≡◌, ℕ, ◌+◌, ◌<◌, ◌^◌, ◌↔◌, ◌⊎◌, inl, inr, refl, List, [], ◌∷◌, ◌++◌, length, get_or}
 use Rattle.std.proofs.Common.{take, sym, ap, subst, ◌∙◌, arith, add-one}
 use Rattle.std.specs.Prelude.{Some, None, IsSome, IsSomeAnd, IfSome, Contains}
 use Rattle.std.proofs.Math.Seq.{take-suc}
-use Rattle.std.proofs.lemmas.List.{map-append}
+use Rattle.std.proofs.lemmas.List.{append-nil, flat_map_more}
 use Rattle.std.proofs.lemmas.List.Elements.{Contains-append_left, Contains-push, Contains-push_cases}
-use Rattle.tree_model.specs.Counted.{Plan, IsPlanned, planned_more}
-use Rattle.tree_memory.specs.Medium.{Medium}
+use Rattle.tree_model.specs.Counted.{Counts, Plan, IsPlanned, planned_more}
+use Rattle.journal_model.specs.declared.entries.Device.{Device}
+use Rattle.journal_model.specs.declared.entries.Device.TheVariants.{Tree as TreeDevice, Store as StoreDevice}
 use Rattle.vold_cases.specs.declared.case.Planned.{Planned}
-use Rattle.vold_cases.specs.Played.{calls_of, HasNumbers, IsPlannedTree}
+use Rattle.vold_cases.specs.Played.{calls_of, number_at, ArePlanned, HasNumbers, Plans}
 
 numbers_more : (before after numbers : List ℕ) (calls nth : ℕ) → calls ≡ 0 → nth < 2 ^ 64 → HasNumbers numbers before
     → planned_more before calls nth after → HasNumbers (numbers ++ nth ∷ []) after
@@ -38,21 +39,65 @@ plan_more (Some before) None numbers calls nth none small planned told more = ab
 plan_more (Some before) (Some after) numbers calls nth none small planned told more =
     numbers_more before after numbers calls nth none small planned more
 
--- one more fault is planned
-pub fault_planned : (faults : List Planned) (i : ℕ) (fault : Planned) (before after : Medium) → i < length faults
-    → fault ≡ get_or faults i fault → fault.call < 2 ^ 64 → IsPlannedTree (take i faults) before
-    → after.disk ≡ before.disk → IsPlanned before.counts after.counts fault.call → IsPlannedTree
-    (take (i + 1) faults) after
-fault_planned faults i fault before after within is small tree same planned =
+-- one more call of the device is planned
+planned_more_at : (device : Device) (faults : List Planned) (fault : Planned) (before after : Counts)
+    → number_at device fault.device fault.call ≡ fault.call ∷ [] → fault.call < 2 ^ 64
+    → ArePlanned device faults before
+    → IsPlanned before after fault.call → ArePlanned device (faults ++ fault ∷ []) after
+planned_more_at device faults fault before after own small were planned =
+    let numbers : calls_of device (faults ++ fault ∷ []) ≡ calls_of device faults ++ fault.call ∷ [] =
+    sym (flat_map_more (λ (f : Planned). number_at device f.device f.call) [] faults fault)
+    ∙ ap (λ ns. calls_of device faults ++ ns) own in
+    record {
+      calls = planned.same_calls ∙ were.calls;
+      none = planned.same_faults ∙ were.none;
+      planned = subst (λ ns. IsSomeAnd after.plan (HasNumbers ns)) (sym numbers)
+          (plan_more before.plan after.plan (calls_of device faults) before.calls fault.call
+          were.calls small were.planned planned.told planned.planned);
+    }
+
+-- one of the other device's is not
+planned_same : (device : Device) (faults : List Planned) (fault : Planned) (before after : Counts)
+    → number_at device fault.device fault.call ≡ [] → ArePlanned device faults before → after ≡ before
+    → ArePlanned device (faults ++ fault ∷ []) after
+planned_same device faults fault before after other were same =
+    let numbers : calls_of device (faults ++ fault ∷ []) ≡ calls_of device faults =
+    sym (flat_map_more (λ (f : Planned). number_at device f.device f.call) [] faults fault)
+    ∙ ap (λ ns. calls_of device faults ++ ns) other ∙ append-nil (calls_of device faults) in
+    subst (ArePlanned device (faults ++ fault ∷ [])) (sym same) (record {
+      calls = were.calls;
+      none = were.none;
+      planned = subst (λ ns. IsSomeAnd before.plan (HasNumbers ns)) (sym numbers) were.planned;
+    })
+
+-- one more fault
+fault_more : (device : Device) (faults : List Planned) (fault : Planned) (before after : Counts)
+    → fault.call < 2 ^ 64 → ArePlanned device faults before → Plans device fault.device fault.call before after
+    → ArePlanned device (faults ++ fault ∷ []) after
+fault_more device faults fault before after small were plans = by device fault.device refl were plans
+  where
+    by : (own other : Device) → fault.device ≡ other → ArePlanned own faults before
+        → Plans own other fault.call before after → ArePlanned own (faults ++ fault ∷ []) after
+    by TreeDevice TreeDevice is were plans =
+        planned_more_at TreeDevice faults fault before after
+        (ap (λ d. number_at TreeDevice d fault.call) is) small were plans
+    by StoreDevice StoreDevice is were plans =
+        planned_more_at StoreDevice faults fault before after
+        (ap (λ d. number_at StoreDevice d fault.call) is) small were plans
+    by TreeDevice StoreDevice is were plans =
+        planned_same TreeDevice faults fault before after (ap (λ d. number_at TreeDevice d fault.call) is) were
+        plans
+    by StoreDevice TreeDevice is were plans =
+        planned_same StoreDevice faults fault before after (ap (λ d. number_at StoreDevice d fault.call) is)
+        were plans
+
+-- the next fault of those
+pub fault_planned : (device : Device) (faults : List Planned) (i : ℕ) (fault : Planned) (before after : Counts)
+    → i < length faults → fault ≡ get_or faults i fault → fault.call < 2 ^ 64
+    → ArePlanned device (take i faults) before → Plans device fault.device fault.call before after
+    → ArePlanned device (take (i + 1) faults) after
+fault_planned device faults i fault before after within is small were plans =
     let one_more : take (i + 1) faults ≡ take i faults ++ fault ∷ [] = ap (λ n. take n faults) (add-one i)
     ∙ take-suc faults i fault within ∙ ap (λ f. take i faults ++ f ∷ []) (sym is) in
-    let numbers : calls_of (take (i + 1) faults) ≡ calls_of (take i faults) ++ fault.call ∷ [] = ap calls_of one_more
-    ∙ map-append (λ (f : Planned). f.call) (take i faults) (fault ∷ []) in
-    record {
-      empty = same ∙ tree.empty;
-      calls = planned.same_calls ∙ tree.calls;
-      none = planned.same_faults ∙ tree.none;
-      planned = subst (λ ns. IsSomeAnd after.counts.plan (HasNumbers ns)) (sym numbers)
-          (plan_more before.counts.plan after.counts.plan (calls_of (take i faults)) before.counts.calls fault.call
-          tree.calls small tree.planned planned.told planned.planned);
-    }
+    subst (λ fs. ArePlanned device fs after) (sym one_more)
+    (fault_more device (take i faults) fault before after small were plans)

@@ -1,11 +1,6 @@
 ghost use Rattle.std.specs.Prelude.{◌≤◌};
 
-/// A device of a run, for which a case may plan faults.
-#[derive(Clone, Copy, Debug, PartialEq, Eq)]
-pub enum Device {
-    /// The tree of key directories.
-    Tree,
-}
+use journal_model::Device;
 
 /// A call of a device that fails: its number among that device's calls, from 1.
 #[derive(Clone, Copy, Debug, PartialEq, Eq)]

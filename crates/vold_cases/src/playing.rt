@@ -1,9 +1,13 @@
-ghost use Rattle.std.specs.Prelude.{◌≡◌, IfOk};
-ghost use Rattle.vold_cases.specs.Played.{report_of, IsPlannedTree, PrintsCase};
+ghost use Rattle.std.specs.Prelude.{◌≡◌, ◌≤◌, IfOk, OnOk};
+ghost use Rattle.journal_model.specs.declared.entries.Device.TheVariants.{Tree as TreeDevice, Store as StoreDevice};
+ghost use Rattle.vold_cases.specs.Played.{report_of, IsPlannedStore, IsPlannedTree, Plans, PrintsCase};
 
 use crate::case::{Case, Planned};
 use crate::reading::cases_in;
 use crate::refusal::{Refusal, refusal_line};
+use journal_model::Device;
+use keystore_memory::MemKeystore;
+use keystore_model::Keystore;
 use std::alloc::Global;
 use tree_memory::MemTree;
 use tree_model::{Bytes, NoMemory, TreeDisk};
@@ -37,10 +41,18 @@ fn played(alloc: Global, case: &Case) -> Result<Bytes, NoMemory>
     ensures { IfOk result (λ text. PrintsCase case.now text) }
 {
     let tree = planned_tree(alloc, case.faults.as_slice())?;
+    let store = planned_store(alloc, case.faults.as_slice())?;
     let script = Bytes::copy(alloc, case.script.as_bytes())?;
     let mut source = MemSource::new(script, None);
     let mut sink = MemSink::new(alloc, None);
-    let end = run(alloc, case.words.as_slice(), &mut source, &mut sink, tree);
+    let end = run(
+        alloc,
+        case.words.as_slice(),
+        &mut source,
+        &mut sink,
+        tree,
+        store,
+    );
     report(
         alloc,
         case.name.as_str(),
@@ -55,9 +67,44 @@ fn planned_tree(alloc: Global, faults: &[Planned]) -> Result<MemTree, NoMemory>
 {
     let mut tree = MemTree::new(alloc)?;
     for fault in faults {
-        tree.plan_fault(u64::from(fault.call))?;
+        plan_in_tree(&mut tree, fault.device, u64::from(fault.call))?;
     }
     Ok(tree)
+}
+
+/// Plans that the call fails, where it is one of the tree.
+fn plan_in_tree(tree: &mut MemTree, device: Device, call: u64) -> Result<(), NoMemory>
+    requires { 1 ≤ call }
+    ensures same { tree.new.disk ≡ tree.old.disk }
+    ensures planned { OnOk result (Plans TreeDevice device call tree.old.counts tree.new.counts) }
+{
+    match device {
+        Device::Tree => tree.plan_fault(call),
+        Device::Store => Ok(()),
+    }
+}
+
+/// A keystore in memory, before its first call, of which the planned calls fail.
+fn planned_store(alloc: Global, faults: &[Planned]) -> Result<MemKeystore, NoMemory>
+    ensures { IfOk result (λ store. IsPlannedStore faults.now store) }
+{
+    let mut store = MemKeystore::new(alloc)?;
+    for fault in faults {
+        plan_in_store(&mut store, fault.device, u64::from(fault.call))?;
+    }
+    Ok(store)
+}
+
+/// Plans that the call fails, where it is one of the keystore.
+fn plan_in_store(store: &mut MemKeystore, device: Device, call: u64) -> Result<(), NoMemory>
+    requires { 1 ≤ call }
+    ensures same { store.new.store ≡ store.old.store }
+    ensures planned { OnOk result (Plans StoreDevice device call store.old.counts store.new.counts) }
+{
+    match device {
+        Device::Tree => Ok(()),
+        Device::Store => store.plan_fault(call),
+    }
 }
 
 /// What a case prints: its name, what its run wrote, and the number that the run ended with.

@@ -4,8 +4,9 @@ ghost use Rattle.script_text.specs.Reading.{words_in, words_after, Lacks, Reads}
 ghost use Rattle.vold_cases.specs.Case.{case_text, device_word, fault_line, fault_text, fault_words, head_words};
 ghost use Rattle.vold_cases.specs.Case.{ends_case, IsCase, IsNoHead, IsPlanned, IsScriptText};
 
-use crate::case::{Case, Device, Planned};
+use crate::case::{Case, Planned};
 use crate::refusal::{Refusal, Wrong};
+use journal_model::Device;
 use script_text::number_of;
 use std::alloc::Global;
 use tree_model::NoMemory;
@@ -159,10 +160,11 @@ fn fault_of(line: &str) -> Option<Planned>
 fn device_named(word: &str) -> Option<Device>
     ensures { Reads (λ _. ⊤) device_word word.now result }
 {
-    if word == "tree" {
-        return Some(Device::Tree);
+    match word {
+        "tree" => Some(Device::Tree),
+        "store" => Some(Device::Store),
+        _ => None,
     }
-    None
 }
 
 /// The script that the text begins with, and what follows the line that ends the case.

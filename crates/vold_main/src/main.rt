@@ -1,6 +1,7 @@
-//! The program: a run over standard input and output, with a tree in memory.
+//! The program: a run over standard input and output, with a tree and a keystore in memory.
 #![tactic(auto)]
 
+use keystore_memory::MemKeystore;
 use script_text::Status;
 use std::env;
 use std::io::{ErrorKind, Write};
@@ -21,7 +22,8 @@ fn ended<W: Write + Drop>(rt: &HostRuntime, sink: &mut WriteSink<W>) -> Result<S
     let words = asked_words(rt.alloc(), words(rt))?;
     let mut source = ReadSource::new(rt.stdin());
     let tree = MemTree::new(rt.alloc())?;
-    let end = run(rt.alloc(), words.as_slice(), &mut source, sink, tree);
+    let store = MemKeystore::new(rt.alloc())?;
+    let end = run(rt.alloc(), words.as_slice(), &mut source, sink, tree, store);
     Ok(end.status)
 }
 

@@ -3,10 +3,9 @@ use Rattle.std.proofs.Common.{◌≡◌, ℕ, List, ◌++◌, sym, ap, subst, �
 use Rattle.std.specs.Prelude.{None, IfSome}
 use Rattle.std.specs.FinMap as map
 use Rattle.journal_model.specs.Actor.{actor_cmp}
-use Rattle.tree_model.specs.Disk.{Disk}
-use Rattle.tree_model.specs.Counted.{Counts}
+use Rattle.bench.specs.Bench.{BenchState, Senses}
 use Rattle.script_text.specs.declared.script.Line.{Line}
-use Rattle.vold_book.specs.State.{BookState}
+use Rattle.vold_book.specs.State.{BookState, seen}
 use Rattle.vold_book.specs.Whole.{IsWhole}
 use Rattle.vold_book.specs.Whole.{AllAsGiven}
 use Rattle.vold_book.specs.Stands.{IsLooked}
@@ -15,11 +14,11 @@ use Rattle.vold_run.specs.Lines.{commands_of, orders_of, AreLinesDone, EndsIdle,
 use Rattle.vold_run.specs.Shown.{Shows}
 use Rattle.vold_run.specs.Ends.{IsDone}
 
-pub shown_is_done : {D : Type 0} (disk : D → Disk) (counts : D → Counts) (start : BookState D) (lines : List Line)
-    (worked book : BookState D) → IsFresh start lines → AreLinesDone disk counts None lines start worked
-    → IsWhole disk counts book → IsLooked disk worked book
-    → (text : List ℕ) → Shows disk counts worked book text → IsDone disk counts start lines book text
-shown_is_done disk counts start lines worked book fresh done whole looked text shown =
+pub shown_is_done : {D E : Type 0} (senses : Senses D E) (start : BookState (BenchState D E)) (lines : List Line)
+    (worked book : BookState (BenchState D E)) → IsFresh start lines → AreLinesDone senses None lines start worked
+    → IsWhole senses book → IsLooked senses worked book
+    → (text : List ℕ) → Shows (seen senses worked) (seen senses book) text → IsDone senses start lines book text
+shown_is_done senses start lines worked book fresh done whole looked text shown =
     let commands : book.docket.commands ≡ commands_of lines = ap (λ b. b.docket.commands) looked.state ∙ done.commands
     ∙ ap (λ h. h.commands ++ commands_of lines) fresh.history in
     record {
@@ -38,9 +37,9 @@ shown_is_done disk counts start lines worked book fresh done whole looked text s
     }
 
 -- a Book as it is opened waits for its lines
-pub fresh-between : {D : Type 0} (disk : D → Disk) (counts : D → Counts) (book : BookState D) (lines : List Line)
-    → IsWhole disk counts book → IsFresh book lines → IsBetweenLines disk counts book
-fresh-between disk counts book lines whole fresh = record {
+pub fresh-between : {D E : Type 0} (senses : Senses D E) (book : BookState (BenchState D E)) (lines : List Line)
+    → IsWhole senses book → IsFresh book lines → IsBetweenLines senses book
+fresh-between senses book lines whole fresh = record {
   whole = whole;
   level = ap (λ p. p.level) fresh.tracker;
   order =

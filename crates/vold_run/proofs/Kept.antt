@@ -2,8 +2,7 @@
 use Rattle.std.proofs.Common.{◌≡◌, ◌≢◌, ℕ, List, [], ◌∷◌, inl, inr, refl, sym, ap, ◌∙◌, subst}
 use Rattle.std.specs.Prelude.{Some, IfSome}
 use Rattle.std.specs.FinMap as map
-use Rattle.tree_model.specs.Disk.{Disk}
-use Rattle.tree_model.specs.Counted.{Counts}
+use Rattle.bench.specs.Bench.{BenchState, Senses}
 use Rattle.tree_model.proofs.Maps.{get-insert_same, get-insert_other, get-remove_same, get-remove_other}
 use Rattle.journal_model.specs.declared.commands.Actor.{Actor}
 use Rattle.journal_model.specs.Actor.{actor_cmp, actor_total, actor_exact}
@@ -17,7 +16,7 @@ use Rattle.docket.specs.Docket.{with_queue}
 use Rattle.vold_book.specs.Turns.{Answers, Turns}
 use Rattle.docket.proofs.Accounts.{at_actors}
 use Rattle.vold_run.specs.Lines.{IsInOrder, IsBetweenLines, IsKept}
-use Rattle.vold_run.proofs.Counted.{answers-count, counts-joined, counts-same}
+use Rattle.vold_run.proofs.Counted.{answers-count, counts-joined, counts-same, devices-same}
 
 abbrev Waiting : Type 0
 Waiting = map.FinMap actor_cmp (List ℕ)
@@ -55,7 +54,7 @@ order-put waiting actor numbers own order =
     (sym (get-insert_other actor_total actor_exact waiting actor numbers other differ)) (order other))
 
 -- what a turn leaves as it was, and in order
-record Leaves {D : Type 0} (before after : BookState D) : Type 0 where
+record Leaves {B : Type 0} (before after : BookState B) : Type 0 where
   commands : after.docket.commands ≡ before.docket.commands
   orders : after.ledger.orders ≡ before.ledger.orders
   seed : after.seed ≡ before.seed
@@ -63,7 +62,7 @@ record Leaves {D : Type 0} (before after : BookState D) : Type 0 where
   still : before.tracker.phase ≢ Halted → after.tracker.phase ≢ Halted
   order : AreInOrder before.docket.waiting → AreInOrder after.docket.waiting
 
-same-leaves : {D : Type 0} (before after : BookState D) → after ≡ before → Leaves before after
+same-leaves : {B : Type 0} (before after : BookState B) → after ≡ before → Leaves before after
 same-leaves before after same = record {
   commands = ap (λ b. b.docket.commands) same;
   orders = ap (λ b. b.ledger.orders) same;
@@ -73,8 +72,8 @@ same-leaves before after same = record {
   order = λ order. subst (λ b. AreInOrder b.docket.waiting) (sym same) order;
 }
 
-module _ {D : Type 0} (disk : D → Disk) (counts : D → Counts) (before after : BookState D) (actor : Actor) where
-  turn-leaves : Turns counts before after actor → Leaves before after
+module _ {D E : Type 0} (senses : Senses D E) (before after : BookState (BenchState D E)) (actor : Actor) where
+  turn-leaves : Turns senses before after actor → Leaves before after
   turn-leaves (inl (none, begins)) = record {
     commands = ap (λ b. b.docket.commands) begins.state;
     orders = ap (λ b. b.ledger.orders) begins.state;
@@ -102,43 +101,43 @@ module _ {D : Type 0} (disk : D → Disk) (counts : D → Counts) (before after 
     order = λ order. subst AreInOrder (sym (ap (λ b. b.docket.waiting) replies.state)) order;
   }
 
-  answers-leave : (turn : Turn) → Answers counts before after actor turn → Leaves before after
+  answers-leave : (turn : Turn) → Answers senses before after actor turn → Leaves before after
   answers-leave Went went = turn-leaves went.turn
   answers-leave Idle idle = same-leaves before after idle.1
   answers-leave Waits waits = same-leaves before after waits.2
 
   -- whatever a turn answers
-  pub turn-kept : (turn : Turn) → IsBetweenLines disk counts before → Answers counts before after actor turn
-      → IsWhole disk counts after → IsKept disk counts before after
+  pub turn-kept : (turn : Turn) → IsBetweenLines senses before → Answers senses before after actor turn
+      → IsWhole senses after → IsKept senses before after
   turn-kept turn between answers whole =
       let leaves = answers-leave turn answers in
       record {
         commands = leaves.commands;
         orders = leaves.orders;
         seed = leaves.seed;
-        counted = answers-count counts before after actor turn answers;
+        counted = answers-count senses before after actor turn answers;
         still = leaves.still;
         between = record { whole = whole; level = leaves.level ∙ between.level; order = leaves.order between.order };
       }
 
-module _ {D : Type 0} (disk : D → Disk) (counts : D → Counts) where
-  pub kept-same : (book : BookState D) → IsBetweenLines disk counts book → IsKept disk counts book book
+module _ {D E : Type 0} (senses : Senses D E) where
+  pub kept-same : (book : BookState (BenchState D E)) → IsBetweenLines senses book → IsKept senses book book
   kept-same book between = record {
     commands = refl;
     orders = refl;
     seed = refl;
-    counted = counts-same counts book book refl refl;
+    counted = counts-same senses book book (devices-same senses book book refl refl) refl;
     still = λ differ. differ;
     between = between;
   }
 
-  pub kept-joined : (before between after : BookState D) → IsKept disk counts before between
-      → IsKept disk counts between after → IsKept disk counts before after
+  pub kept-joined : (before between after : BookState (BenchState D E)) → IsKept senses before between
+      → IsKept senses between after → IsKept senses before after
   kept-joined before between after first second = record {
     commands = second.commands ∙ first.commands;
     orders = second.orders ∙ first.orders;
     seed = second.seed ∙ first.seed;
-    counted = counts-joined counts before between after first.counted second.counted;
+    counted = counts-joined senses before between after first.counted second.counted;
     still = λ differ. second.still (first.still differ);
     between = second.between;
   }

@@ -1,12 +1,14 @@
 pub mod Came
 pub mod Counted
 pub mod Dirs
+pub mod Devices
 pub mod Done
 pub mod Kept
 pub mod LineDone
 pub mod Looks
 pub mod Placed
 pub mod Queued
+pub mod Rows
 pub mod Turned
 pub mod Words
 pub mod Work

@@ -5,9 +5,8 @@ use Rattle.std.proofs.lemmas.List.{append-nil}
 use Rattle.std.specs.Prelude.{Option, Some, None, Result, Ok, Err, IsOk, OnOk}
 use Rattle.tree_model.specs.declared.memory.NoMemory.{NoMemory}
 use Rattle.tree_model.specs.declared.ops.Cut.{Cut}
-use Rattle.tree_model.specs.Disk.{Disk}
+use Rattle.bench.specs.Bench.{BenchState, Senses}
 use Rattle.tree_model.specs.Tree.{changes_in}
-use Rattle.tree_model.specs.Counted.{Counts}
 use Rattle.journal_model.specs.declared.commands.Actor.{Actor}
 use Rattle.journal_model.specs.declared.commands.Actor.TheVariants.{User}
 use Rattle.journal_model.specs.declared.commands.Command.{Command}
@@ -29,7 +28,7 @@ use Rattle.vold_book.specs.Turns.{with_command, IsEnqueued}
 use Rattle.vold_run.specs.Fits.{AllFits, TurnsOf, history_of}
 use Rattle.vold_run.specs.Lines.{IsBetweenLines, IsKept, IsLineDone}
 use Rattle.vold_run.specs.Rounds.{NothingLeft}
-use Rattle.vold_run.proofs.Counted.{counts-same}
+use Rattle.vold_run.proofs.Counted.{counts-same, devices-same}
 use Rattle.vold_run.proofs.Kept.{AreInOrder}
 use Rattle.vold_run.proofs.Queued.{order-given, order-restarted}
 
@@ -43,30 +42,34 @@ no-more keep count is = omega (arith, is)
 down-runs : Down ≢ Halted
 down-runs e = cc
 
-module _ {D : Type 0} (disk : D → Disk) (counts : D → Counts) (before after : BookState D)
-    (between : IsBetweenLines disk counts before) where
+module _ {D E : Type 0} (senses : Senses D E) (before after : BookState (BenchState D E))
+    (between : IsBetweenLines senses before) where
   pub seed-done : (bytes : List ℕ) → before.tracker.phase ≢ Halted → after ≡ before
-      → IsLineDone disk counts (Seed bytes) before after
+      → IsLineDone senses (Seed bytes) before after
   seed-done bytes ready same = record {
     commands = ap (λ b. b.docket.commands) same ∙ sym (append-nil before.docket.commands);
     orders = ap (λ b. b.ledger.orders) same ∙ sym (append-nil before.ledger.orders);
     seed = ap (λ b. b.seed) same;
     fits = ap history_of same;
-    counted = counts-same counts before after (ap (λ b. counts b.tree) same) (ap (λ b. b.ledger.callers) same);
+    counted = counts-same senses before after
+        (devices-same senses before after (ap (λ b. b.bench.tree) same) (ap (λ b. b.bench.store) same))
+        (ap (λ b. b.ledger.callers) same);
     idle = λ is. cc;
     still = subst (λ b. b.tracker.phase ≢ Halted) (sym same) ready;
-    between = subst (IsBetweenLines disk counts) (sym same) between;
+    between = subst (IsBetweenLines senses) (sym same) between;
   }
 
   pub command-done : (command : Command) (user : ℕ) → actor_of command ≡ User user → before.tracker.phase ≢ Halted
-      → IsWhole disk counts after → after ≡ with_command before command
-      → IsLineDone disk counts (Do command) before after
+      → IsWhole senses after → after ≡ with_command before command
+      → IsLineDone senses (Do command) before after
   command-done command user own ready whole state = record {
     commands = ap (λ b. b.docket.commands) state;
     orders = ap (λ b. b.ledger.orders) state ∙ sym (append-nil before.ledger.orders);
     seed = ap (λ b. b.seed) state;
     fits = ap history_of state;
-    counted = counts-same counts before after (ap (λ b. counts b.tree) state) (ap (λ b. b.ledger.callers) state);
+    counted = counts-same senses before after
+        (devices-same senses before after (ap (λ b. b.bench.tree) state) (ap (λ b. b.bench.store) state))
+        (ap (λ b. b.ledger.callers) state);
     idle = λ is. cc;
     still = subst (λ b. b.tracker.phase ≢ Halted) (sym state) ready;
     between = record {
@@ -80,8 +83,8 @@ module _ {D : Type 0} (disk : D → Disk) (counts : D → Counts) (before after 
   }
 
   pub turns-done : (actor : Actor) (count : ℕ) → before.tracker.phase ≢ Halted
-      → TurnsOf actor count (history_of before) (history_of after) → IsKept disk counts before after
-      → IsLineDone disk counts (Turns actor count) before after
+      → TurnsOf actor count (history_of before) (history_of after) → IsKept senses before after
+      → IsLineDone senses (Turns actor count) before after
   turns-done actor count ready fits kept = record {
     commands = kept.commands ∙ sym (append-nil before.docket.commands);
     orders = kept.orders ∙ sym (append-nil before.ledger.orders);
@@ -94,7 +97,7 @@ module _ {D : Type 0} (disk : D → Disk) (counts : D → Counts) (before after 
   }
 
   pub all-done : before.tracker.phase ≢ Halted → AllFits (history_of before) (history_of after) → NothingLeft after
-      → IsKept disk counts before after → IsLineDone disk counts All before after
+      → IsKept senses before after → IsLineDone senses All before after
   all-done ready fits idle kept = record {
     commands = kept.commands ∙ sym (append-nil before.docket.commands);
     orders = kept.orders ∙ sym (append-nil before.ledger.orders);
@@ -108,25 +111,29 @@ module _ {D : Type 0} (disk : D → Disk) (counts : D → Counts) (before after 
 
   -- where no operation is kept, no further change is
   none-survive : (keep : ℕ) → keep ≡ 0
-      → survivors (timeline (disk before.tree) (machine_of before)) keep ≡ (machine_after before.ledger.entries).kept
+      → survivors (timeline (senses.disk before.bench.tree) (machine_of before)) keep
+      ≡ (machine_after before.ledger.entries).kept
   none-survive keep is =
-      let pending = (disk before.tree).pending in
-      let none : changes_in (disk before.tree).stable (take (min keep (length pending)) pending) ≡ 0 =
-      ap (λ n. changes_in (disk before.tree).stable (take n pending)) (no-more keep (length pending) is) in
+      let pending = (senses.disk before.bench.tree).pending in
+      let none : changes_in (senses.disk before.bench.tree).stable (take (min keep (length pending)) pending) ≡ 0 =
+      ap (λ n. changes_in (senses.disk before.bench.tree).stable (take n pending))
+      (no-more keep (length pending) is) in
       omega (arith, none)
 
-  pub stop-done : (cut : Cut) → IsWhole disk counts after → IsStopped disk counts before after cut
-      → IsLineDone disk counts (Stop cut) before after
+  stop-done : (cut : Cut) → IsWhole senses after → IsStopped senses before after cut
+      → IsLineDone senses (Stop cut) before after
   stop-done cut whole stopped = record {
     commands = ap (λ b. b.docket.commands) stopped.state ∙ sym (append-nil before.docket.commands);
     orders = ap (λ b. b.ledger.orders) stopped.state;
     seed = ap (λ b. b.seed) stopped.state;
     fits = record {
-      kept = survivors (timeline (disk before.tree) (machine_of before)) cut.keep;
+      kept = survivors (timeline (senses.disk before.bench.tree) (machine_of before)) cut.keep;
       left = ap history_of stopped.state;
       none = λ is. none-survive cut.keep is;
     };
-    counted = counts-same counts before after stopped.same_counts (ap (λ b. b.ledger.callers) stopped.state);
+    counted = counts-same senses before after
+        (record { tree = ap (λ s. s.tree_counts) stopped.left; store = ap (λ s. s.store_counts) stopped.left })
+        (ap (λ b. b.ledger.callers) stopped.state);
     idle = λ is. cc;
     still = ap (λ b. b.tracker.phase) stopped.state;
     between = record {
@@ -136,8 +143,14 @@ module _ {D : Type 0} (disk : D → Disk) (counts : D → Counts) (before after 
     };
   }
 
-  pub restart-done : (level : ℕ) → level ≡ 1 → IsWhole disk counts after → IsRestarted disk counts before after level
-      → IsLineDone disk counts (Restart level) before after
+  -- where memory was there to stop
+  pub stopped-done : (cut : Cut) → IsWhole senses after → (result : Result (Unit {0}) NoMemory)
+      → OnOk result (IsStopped senses before after cut) → OnOk result (IsLineDone senses (Stop cut) before after)
+  stopped-done cut whole (Ok done) stopped = stop-done cut whole stopped
+  stopped-done cut whole (Err want) stopped = tt
+
+  restart-done : (level : ℕ) → level ≡ 1 → IsWhole senses after → IsRestarted senses before after level
+      → IsLineDone senses (Restart level) before after
   restart-done level one whole restarted = record {
     commands = ap (λ b. b.docket.commands) restarted.state;
     orders = ap (λ b. b.ledger.orders) restarted.state ∙ sym (append-nil before.ledger.orders);
@@ -150,7 +163,9 @@ module _ {D : Type 0} (disk : D → Disk) (counts : D → Counts) (before after 
           calls = before.ledger.callers;
         })
         (sym between.whole.agrees.boot);
-    counted = counts-same counts before after restarted.same_counts (ap (λ b. b.ledger.callers) restarted.state);
+    counted = counts-same senses before after
+        (record { tree = ap (λ s. s.tree_counts) restarted.same; store = ap (λ s. s.store_counts) restarted.same })
+        (ap (λ b. b.ledger.callers) restarted.state);
     idle = λ is. cc;
     still = λ halted. down-runs (sym (ap (λ b. b.tracker.phase) restarted.state) ∙ halted);
     between = record {
@@ -165,22 +180,22 @@ module _ {D : Type 0} (disk : D → Disk) (counts : D → Counts) (before after 
 
   -- where a command got its number
   pub given-done : (command : Command) → IsLine (Do command) → before.tracker.phase ≢ Halted
-      → IsWhole disk counts after → (answer : Result ℕ EnqueueFault) → IsEnqueued before after command answer
+      → IsWhole senses after → (answer : Result ℕ EnqueueFault) → IsEnqueued before after command answer
       → (result : Result (Unit {0}) NoMemory) → (IsOk result → IsOk answer)
-      → OnOk result (IsLineDone disk counts (Do command) before after)
+      → OnOk result (IsLineDone senses (Do command) before after)
   given-done command line ready whole answer enqueued (Err fault) given = tt
   given-done command line ready whole (Ok number) enqueued (Ok done) given = by (user_in command) refl
     where
-      by : (user : Option ℕ) → user_in command ≡ user → IsLineDone disk counts (Do command) before after
+      by : (user : Option ℕ) → user_in command ≡ user → IsLineDone senses (Do command) before after
       by None is = absurd (subst (λ c. IsLine (Do c)) (no-user command is) line).first
       by (Some user) is = command-done command user (of-user command user is) ready whole enqueued.2
   given-done command line ready whole (Err fault) enqueued (Ok done) given =
       absurd (not_ok (Err fault) fault refl (given refl))
 
   -- where a restart's recovery got its number
-  pub begun-done : (level : ℕ) → IsLine (Restart level) → IsWhole disk counts after → (answer : Result ℕ EnqueueFault)
-      → OnOk answer (IsRestarted disk counts before after level) → (result : Result (Unit {0}) NoMemory)
-      → (IsOk result → IsOk answer) → OnOk result (IsLineDone disk counts (Restart level) before after)
+  pub begun-done : (level : ℕ) → IsLine (Restart level) → IsWhole senses after → (answer : Result ℕ EnqueueFault)
+      → OnOk answer (IsRestarted senses before after level) → (result : Result (Unit {0}) NoMemory)
+      → (IsOk result → IsOk answer) → OnOk result (IsLineDone senses (Restart level) before after)
   begun-done level line whole answer restarted (Err fault) given = tt
   begun-done level line whole (Ok number) restarted (Ok done) given =
       restart-done level (omega (arith, line.first.1, line.first.2)) whole restarted

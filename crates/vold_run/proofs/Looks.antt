@@ -1,10 +1,13 @@
--- The looks that read a tree, one after another: each is counted by its answer alone.
+-- The looks that read the devices, one after another: each is counted by its answer alone.
 use Rattle.std.proofs.Common.{◌≡◌, ◌↔◌, sym, ap, ◌∙◌}
 use Rattle.std.specs.Prelude.{Result, Ok, Err, IsErrOf}
 use Rattle.std.proofs.lemmas.Option.{IfSome_then}
 use Rattle.tree_model.specs.declared.device.DevFault.{DevFault}
 use Rattle.tree_model.specs.declared.device.DevFault.TheVariants.{Failed}
 use Rattle.tree_model.specs.Counted.{Counts, IsCounted}
+use Rattle.bench.specs.Bench.{BenchState, Senses, Plain}
+use Rattle.vold_book.specs.Stands.{IsLooked}
+use Rattle.vold_book.specs.State.{BookState, over, seen}
 use Rattle.vold_run.specs.Shown.{IsAnswered, IsFailed}
 
 -- calls that fail in the same way are counted alike
@@ -45,3 +48,21 @@ failed_look before after result failed counted =
       λ no. let same : Failed ≡ fault = let e = sym failed ∙ no in cc in ap Err same,
       λ no. let same : Failed ≡ fault = let e : look ≡ Err fault = no in cc in failed ∙ ap Err same,
     )) counted
+
+-- looks one after another are looks
+pub looked-joined : {D E : Type 0} (senses : Senses D E) (before between after : BookState (BenchState D E))
+    → IsLooked senses before between → IsLooked senses between after → IsLooked senses before after
+looked-joined senses before between after first second = record {
+  state = second.state ∙ ap (λ book. over book after.bench) first.state;
+  same =
+      second.same
+      ∙ ap (λ (bench : Plain). record bench {
+        tree_counts = (seen senses after).bench.tree_counts;
+        store_counts = (seen senses after).bench.store_counts;
+      }) first.same;
+}
+
+-- they leave the disk
+pub disk-looked : {D E : Type 0} (senses : Senses D E) (before after : BookState (BenchState D E))
+    → IsLooked senses before after → senses.disk after.bench.tree ≡ senses.disk before.bench.tree
+disk-looked senses before after looked = ap (λ (bench : Plain). bench.disk) looked.same

@@ -6,8 +6,7 @@ use Rattle.std.proofs.Math.Seq.{take-suc}
 use Rattle.std.proofs.lemmas.List.{append-nil, length-append}
 use Rattle.std.specs.Prelude.{Option, Some, None, IsTrue, MatchBool}
 use Rattle.std.specs.List.{flat_map, AllByRecursion}
-use Rattle.tree_model.specs.Disk.{Disk}
-use Rattle.tree_model.specs.Counted.{Counts}
+use Rattle.bench.specs.Bench.{BenchState, Senses}
 use Rattle.script_text.specs.declared.script.Line.{Line}
 use Rattle.script_text.specs.declared.script.Line.TheVariants.{Seed, Do, Turns, All, Stop, Restart}
 use Rattle.script_text.specs.Script.{is_stop, may_follow, IsLine, AreInOrder}
@@ -17,7 +16,7 @@ use Rattle.vold_book.specs.State.{BookState}
 use Rattle.vold_run.specs.Fits.{History, LineFits, LinesFit, history_of}
 use Rattle.vold_run.specs.Lines.{command_of, order_of, commands_of, orders_of, last_of, StandsStill, IsReadyFor}
 use Rattle.vold_run.specs.Lines.{IsLineDone, AreLinesDone, IsBetweenLines, LeavesNothing}
-use Rattle.vold_run.proofs.Counted.{counts-same, counts-joined}
+use Rattle.vold_run.proofs.Counted.{counts-same, counts-joined, devices-same}
 
 runs_on : (stops : Bool) (phase : Phase) → IsTrue (not stops)
     → MatchBool stops (phase ≡ Halted) (phase ≢ Halted) → phase ≢ Halted
@@ -80,22 +79,23 @@ at_most_one (Stop cut) = omega arith
 at_most_one (Restart level) = omega arith
 
 -- a line gives at most one command
-pub few-more : {D : Type 0} (disk : D → Disk) (counts : D → Counts) (line : Line) (before after : BookState D)
-    → IsLineDone disk counts line before after → length after.docket.commands ≤ length before.docket.commands + 1
-few-more disk counts line before after done =
+pub few-more : {D E : Type 0} (senses : Senses D E) (line : Line) (before after : BookState (BenchState D E))
+    → IsLineDone senses line before after → length after.docket.commands ≤ length before.docket.commands + 1
+few-more senses line before after done =
     let one = at_most_one line in
     let all = ap length done.commands ∙ length-append before.docket.commands (command_of line) in
     omega (arith, one, all)
 
-module _ {D : Type 0} (disk : D → Disk) (counts : D → Counts) (prior : Option Line) where
-  pub no-lines : (book : BookState D) → StandsStill prior book.tracker.phase → IsBetweenLines disk counts book
-      → AreLinesDone disk counts prior [] book book
+module _ {D E : Type 0} (senses : Senses D E) (prior : Option Line) where
+  pub no-lines : (book : BookState (BenchState D E)) → StandsStill prior book.tracker.phase
+      → IsBetweenLines senses book
+      → AreLinesDone senses prior [] book book
   no-lines book still between = record {
     commands = sym (append-nil book.docket.commands);
     orders = sym (append-nil book.ledger.orders);
     seed = refl;
     fits = refl;
-    counted = counts-same counts book book refl refl;
+    counted = counts-same senses book book (devices-same senses book book refl refl) refl;
     idle = λ before last is. absurd (never before last is);
     still = still;
     between = between;
@@ -105,9 +105,9 @@ module _ {D : Type 0} (disk : D → Disk) (counts : D → Counts) (prior : Optio
       never [] last is = cc
       never (first ∷ before) last is = cc
 
-  more : (lines : List Line) (line : Line) (before between after : BookState D)
-      → AreLinesDone disk counts prior lines before between → IsLineDone disk counts line between after
-      → AreLinesDone disk counts prior (lines ++ line ∷ []) before after
+  more : (lines : List Line) (line : Line) (before between after : BookState (BenchState D E))
+      → AreLinesDone senses prior lines before between → IsLineDone senses line between after
+      → AreLinesDone senses prior (lines ++ line ∷ []) before after
   more lines line before between after done then = record {
     commands =
         then.commands ∙ ap (λ cs. cs ++ command_of line) done.commands
@@ -119,7 +119,7 @@ module _ {D : Type 0} (disk : D → Disk) (counts : D → Counts) (prior : Optio
         ∙ ap (λ os. before.ledger.orders ++ os) (sym (flat-more order_of lines line));
     seed = then.seed ∙ done.seed;
     fits = lines_more lines line (history_of before) (history_of between) (history_of after) done.fits then.fits;
-    counted = counts-joined counts before between after done.counted then.counted;
+    counted = counts-joined senses before between after done.counted then.counted;
     idle =
         λ front last is. subst (λ l. LeavesNothing l after)
         (same_Some line last (sym (last-more prior lines line) ∙ ap (last_of prior) is ∙ last-more prior front last))
@@ -129,11 +129,12 @@ module _ {D : Type 0} (disk : D → Disk) (counts : D → Counts) (prior : Optio
   }
 
   -- the next line after the first ones
-  pub next-line : (lines : List Line) (i : ℕ) (line : Line) (before between after : BookState D) → i < length lines
-      → AreLinesDone disk counts prior (take i lines) before between
-      → IsLineDone disk counts (get_or lines i line) between after
-      → AreLinesDone disk counts prior (take (i + 1) lines) before after
+  pub next-line : (lines : List Line) (i : ℕ) (line : Line) (before between after : BookState (BenchState D E))
+      → i < length lines
+      → AreLinesDone senses prior (take i lines) before between
+      → IsLineDone senses (get_or lines i line) between after
+      → AreLinesDone senses prior (take (i + 1) lines) before after
   next-line lines i line before between after within done then =
-      subst (λ ls. AreLinesDone disk counts prior ls before after)
+      subst (λ ls. AreLinesDone senses prior ls before after)
       (sym (ap (λ n. take n lines) (add-one i) ∙ take-suc lines i line within))
       (more (take i lines) (get_or lines i line) before between after done then)

@@ -6,8 +6,7 @@ use Rattle.std.proofs.Common.{◌≡◌, ◌⊎◌, inl, inr, ℕ, List, [], ◌
 use Rattle.std.specs.Prelude.{Option, Some, None, IsSome, IfSome, IsSomeAnd, Contains, slice_get}
 use Rattle.std.specs.FinMap as map
 use Rattle.std.proofs.lemmas.List.{append-nil}
-use Rattle.tree_model.specs.Disk.{Disk}
-use Rattle.tree_model.specs.Counted.{Counts}
+use Rattle.bench.specs.Bench.{BenchState, Senses}
 use Rattle.journal_model.specs.declared.commands.Actor.{Actor}
 use Rattle.journal_model.specs.declared.commands.Actor.TheVariants.{Boot, Cp, User}
 use Rattle.journal_model.specs.declared.entries.Entry.{Entry}
@@ -67,8 +66,8 @@ comes-itself Boot number = omega arith
 comes-itself Cp number = omega arith
 comes-itself (User user) number = omega arith
 
-module _ {D : Type 0} (disk : D → Disk) (counts : D → Counts) (book : BookState D)
-    (whole : IsWhole disk counts book) where
+module _ {D E : Type 0} (senses : Senses D E) (book : BookState (BenchState D E))
+    (whole : IsWhole senses book) where
   runs-run : (actor : Actor) (number : ℕ) → Runs (history_of book) actor number
       → IsSome (map.get book.docket.running actor)
   runs-run actor number runs =
@@ -158,7 +157,8 @@ module _ {D : Type 0} (disk : D → Disk) (counts : D → Counts) (book : BookSt
   pub idle-fits : NothingLeft book → NoWork (history_of book)
   idle-fits idle actor works = idle actor (work-busy actor works) (work-takes actor works)
 
-  begins-fits : (after : BookState D) (actor : Actor) → IfSome (map.get book.docket.waiting actor) (IsInOrder actor)
+  begins-fits : (after : BookState (BenchState D E)) (actor : Actor)
+      → IfSome (map.get book.docket.waiting actor) (IsInOrder actor)
       → map.get book.docket.running actor ≡ None → Begins book after actor
       → BeginsNext (history_of book) actor (history_of after)
   begins-fits after actor order none begins = record {
@@ -195,20 +195,20 @@ entry-noted number (Some entry) (inr (change, is)) entries =
     (entry ∷ [], inr (inr (change, ap (λ e. e ∷ []) is)), refl)
 
 -- a turn that went fits
-pub turn-fits : {D : Type 0} (disk : D → Disk) (counts : D → Counts) (book after : BookState D) (actor : Actor)
-    → IsBetweenLines disk counts book → Goes counts book after actor
+pub turn-fits : {D E : Type 0} (senses : Senses D E) (book after : BookState (BenchState D E)) (actor : Actor)
+    → IsBetweenLines senses book → Goes senses book after actor
     → TurnFits (history_of book) actor (history_of after)
-turn-fits disk counts book after actor between goes = from goes.turn
+turn-fits senses book after actor between goes = from goes.turn
   where
-    from : Turns counts book after actor → TurnFits (history_of book) actor (history_of after)
-    from (inl (none, begins)) = inl (begins-fits disk counts book between.whole after actor (between.order actor)
+    from : Turns senses book after actor → TurnFits (history_of book) actor (history_of after)
+    from (inl (none, begins)) = inl (begins-fits senses book between.whole after actor (between.order actor)
         (none_of (map.get book.docket.running actor) none) begins)
     from (inr (inl calls)) =
         let noted = entry-noted calls.it.number calls.entry calls.noted book.ledger.entries in
         inr (inl (record {
           number = calls.it.number;
           more = noted.0;
-          runs = run-runs disk counts book between.whole actor calls.it calls.runs;
+          runs = run-runs senses book between.whole actor calls.it calls.runs;
           noted = noted.1;
           left = ap history_of calls.state
               ∙ ap (λ entries. record
@@ -217,6 +217,6 @@ turn-fits disk counts book after actor between goes = from goes.turn
     from (inr (inr replies)) = inr (inr (record {
       number = replies.it.number;
       reply = replies.reply;
-      runs = run-runs disk counts book between.whole actor replies.it replies.runs;
+      runs = run-runs senses book between.whole actor replies.it replies.runs;
       left = ap history_of replies.state;
     }))

@@ -1,8 +1,6 @@
 -- How a run ends: what was done, and what the sink took.
 use Rattle.std.specs.Prelude.{◌≡◌, ℕ, ◌⊎◌, List, Option, Some, None}
 use Rattle.std.specs.Io.KnownBytes.{append_known}
-use Rattle.tree_model.specs.Disk.{Disk}
-use Rattle.tree_model.specs.Counted.{Counts}
 use Rattle.vold_io.specs.Transfers.{AddsFront}
 use Rattle.script_text.specs.declared.script.Line.{Line}
 use Rattle.script_text.specs.declared.status.Status.{Status}
@@ -10,7 +8,8 @@ use Rattle.script_text.specs.declared.status.Status.TheVariants.{Done, Usage, Ba
 use Rattle.script_text.specs.declared.status.Status.TheVariants.{ReadFault, WriteFault, NoMemory}
 use Rattle.script_text.specs.Script.{seed_of}
 use Rattle.script_text.specs.Status.{message_of}
-use Rattle.vold_book.specs.State.{BookState}
+use Rattle.bench.specs.Bench.{BenchState, Senses}
+use Rattle.vold_book.specs.State.{BookState, seen}
 use Rattle.vold_book.specs.Whole.{AllAsGiven}
 use Rattle.vold_book.specs.Stands.{IsLooked}
 use Rattle.vold_run.specs.Calls.{CountsCalls}
@@ -24,8 +23,8 @@ abbrev pub InPlaceOf : Status → Status → Type 0
 InPlaceOf wanted status = (status ≡ wanted) ⊎ (status ≡ WriteFault) ⊎ (status ≡ NoMemory)
 
 -- the lines are done on a Book that was as `start`, and the text shows it
-pub record IsDone {D : Type 0} (disk : D → Disk) (counts : D → Counts) (start : BookState D) (lines : List Line)
-    (book : BookState D) (text : List ℕ) : Type 0 where
+pub record IsDone {D E : Type 0} (senses : Senses D E) (start : BookState (BenchState D E)) (lines : List Line)
+    (book : BookState (BenchState D E)) (text : List ℕ) : Type 0 where
   -- the numbered commands are those of the lines, in order, and what began with a number is the command of that number
   pub commands : book.docket.commands ≡ commands_of lines
   pub began : AllAsGiven (commands_of lines) book.ledger.entries
@@ -35,43 +34,42 @@ pub record IsDone {D : Type 0} (disk : D → Disk) (counts : D → Counts) (star
   -- the seed is the script's, and the stops are those of its lines
   pub seed : book.seed ≡ seed_of lines
   pub orders : book.ledger.orders ≡ orders_of lines
-  -- the Book as it was before the last looks at its device; until then its calls were counted as they were made
-  pub worked : BookState D
-  pub counted : CountsCalls counts start worked
-  pub looked : IsLooked disk worked book
-  pub shown : Shows disk counts worked book text
+  -- the Book as it was before the last looks at its devices; until then its calls were counted as they were made
+  pub worked : BookState (BenchState D E)
+  pub counted : CountsCalls senses start worked
+  pub looked : IsLooked senses worked book
+  pub shown : Shows (seen senses worked) (seen senses book) text
 
 -- the lines are done, and the sink took the whole text that shows it
-pub record Prints {D : Type 0} (disk : D → Disk) (counts : D → Counts) (start : BookState D) (lines : List Line)
-    (book : BookState D) (taken taken' : Option (List ℕ)) : Type 0 where
+pub record Prints {D E : Type 0} (senses : Senses D E) (start : BookState (BenchState D E)) (lines : List Line)
+    (book : BookState (BenchState D E)) (taken taken' : Option (List ℕ)) : Type 0 where
   pub text : List ℕ
-  pub done : IsDone disk counts start lines book text
+  pub done : IsDone senses start lines book text
   pub written : taken' ≡ append_known taken text
 
 -- the same, but the sink took a front of the text
-pub record PrintsFront {D : Type 0} (disk : D → Disk) (counts : D → Counts) (start : BookState D) (lines : List Line)
-    (book : BookState D) (taken taken' : Option (List ℕ)) : Type 0 where
+pub record PrintsFront {D E : Type 0} (senses : Senses D E) (start : BookState (BenchState D E)) (lines : List Line)
+    (book : BookState (BenchState D E)) (taken taken' : Option (List ℕ)) : Type 0 where
   pub text : List ℕ
-  pub done : IsDone disk counts start lines book text
+  pub done : IsDone senses start lines book text
   pub front : AddsFront text taken taken'
 
 -- how the work on a Book ends
-abbrev pub WorkEnds : {D : Type 0} → (D → Disk) → (D → Counts) → BookState D → List Line → BookState D
-    → Option (List ℕ) → Option (List ℕ) → Status → Type 0
-WorkEnds disk counts start lines book taken taken' Done = Prints disk counts start lines book taken taken'
-WorkEnds disk counts start lines book taken taken' WriteFault = PrintsFront disk counts start lines book taken taken'
-WorkEnds disk counts start lines book taken taken' NoMemory =
-    (taken' ≡ taken) ⊎ PrintsFront disk counts start lines book taken taken'
-WorkEnds disk counts start lines book taken taken' Usage = ⊥
-WorkEnds disk counts start lines book taken taken' BadScript = ⊥
-WorkEnds disk counts start lines book taken taken' ReadFault = ⊥
+abbrev pub WorkEnds : {D E : Type 0} → Senses D E → BookState (BenchState D E) → List Line
+    → BookState (BenchState D E) → Option (List ℕ) → Option (List ℕ) → Status → Type 0
+WorkEnds senses start lines book taken taken' Done = Prints senses start lines book taken taken'
+WorkEnds senses start lines book taken taken' WriteFault = PrintsFront senses start lines book taken taken'
+WorkEnds senses start lines book taken taken' NoMemory =
+    (taken' ≡ taken) ⊎ PrintsFront senses start lines book taken taken'
+WorkEnds senses start lines book taken taken' Usage = ⊥
+WorkEnds senses start lines book taken taken' BadScript = ⊥
+WorkEnds senses start lines book taken taken' ReadFault = ⊥
 
 -- how a run of lines ends: without a Book only where memory ran out
-abbrev pub LinesEnd : {D : Type 0} → (D → Disk) → (D → Counts) → BookState D → List Line → Option (List ℕ)
-    → Option (List ℕ) → Status → Option (BookState D) → Type 0
-LinesEnd disk counts start lines taken taken' status (Some book) =
-    WorkEnds disk counts start lines book taken taken' status
-LinesEnd disk counts start lines taken taken' status None = (status ≡ NoMemory) × (taken' ≡ taken)
+abbrev pub LinesEnd : {D E : Type 0} → Senses D E → BookState (BenchState D E) → List Line → Option (List ℕ)
+    → Option (List ℕ) → Status → Option (BookState (BenchState D E)) → Type 0
+LinesEnd senses start lines taken taken' status (Some book) = WorkEnds senses start lines book taken taken' status
+LinesEnd senses start lines taken taken' status None = (status ≡ NoMemory) × (taken' ≡ taken)
 
 -- what the sink took of a text, by the status
 abbrev pub Takes : Status → List ℕ → Option (List ℕ) → Option (List ℕ) → Type 0
@@ -84,18 +82,18 @@ Takes NoMemory text taken taken' = AddsFront text taken taken'
 
 -- the script came whole, its lines are done on a Book that was opened with the script's seed, and the sink took the
 -- whole text that shows it
-pub record RunPrints {D : Type 0} (disk : D → Disk) (counts : D → Counts) (start : List ℕ → BookState D)
-    (before after taken taken' : Option (List ℕ)) (book : BookState D) : Type 0 where
+pub record RunPrints {D E : Type 0} (senses : Senses D E) (start : List ℕ → BookState (BenchState D E))
+    (before after taken taken' : Option (List ℕ)) (book : BookState (BenchState D E)) : Type 0 where
   pub lines : List Line
   pub came : ScriptCame before after lines
-  pub printed : Prints disk counts (start (seed_of lines)) lines book taken taken'
+  pub printed : Prints senses (start (seed_of lines)) lines book taken taken'
 
 -- the same, but the sink took a front of the text
-pub record RunPrintsFront {D : Type 0} (disk : D → Disk) (counts : D → Counts) (start : List ℕ → BookState D)
-    (before after taken taken' : Option (List ℕ)) (book : BookState D) : Type 0 where
+pub record RunPrintsFront {D E : Type 0} (senses : Senses D E) (start : List ℕ → BookState (BenchState D E))
+    (before after taken taken' : Option (List ℕ)) (book : BookState (BenchState D E)) : Type 0 where
   pub lines : List Line
   pub came : ScriptCame before after lines
-  pub printed : PrintsFront disk counts (start (seed_of lines)) lines book taken taken'
+  pub printed : PrintsFront senses (start (seed_of lines)) lines book taken taken'
 
 -- there are no lines to do, and the sink took a front of the message that tells why
 pub record TellsFront (words : List (List ℕ)) (before after : Option (List ℕ)) (faults faults' : ℕ)
@@ -110,10 +108,10 @@ HasMessage status = (status ≡ Usage) ⊎ (status ≡ BadScript) ⊎ (status �
 
 -- what was to be written, of which the sink took a front: with a Book what shows it, else the message that tells why
 -- there is none
-abbrev pub WritesFront : {D : Type 0} → (D → Disk) → (D → Counts) → (List ℕ → BookState D) → List (List ℕ)
+abbrev pub WritesFront : {D E : Type 0} → Senses D E → (List ℕ → BookState (BenchState D E)) → List (List ℕ)
     → (before after : Option (List ℕ)) → (faults faults' : ℕ) → (taken taken' : Option (List ℕ))
-    → Option (BookState D) → Type 0
-WritesFront disk counts start words before after faults faults' taken taken' None =
+    → Option (BookState (BenchState D E)) → Type 0
+WritesFront senses start words before after faults faults' taken taken' None =
     TellsFront words before after faults faults' taken taken'
-WritesFront disk counts start words before after faults faults' taken taken' (Some book) =
-    RunPrintsFront disk counts start before after taken taken' book
+WritesFront senses start words before after faults faults' taken taken' (Some book) =
+    RunPrintsFront senses start before after taken taken' book

@@ -1,4 +1,4 @@
--- Who moved in which line: how the lines of a script, the entries of a journal and the device's calls fit together.
+-- Who moved in which line: how the lines of a script, the entries of a journal and the devices' calls fit together.
 -- What waits and what runs is read off the commands that were given and the journal.
 use Rattle.std.specs.Prelude.{◌≡◌, ℕ, zero, suc, ◌+◌, ◌≤◌, ◌⊎◌, List, [], ◌∷◌, ◌++◌}
 use Rattle.std.specs.Prelude.{Option, Some, None, IsSomeAnd, Contains, slice_get}
@@ -21,7 +21,7 @@ use Rattle.script_text.specs.declared.script.Line.TheVariants.{Seed, Do, Turns, 
 use Rattle.vold_book.specs.State.{BookState}
 use Rattle.sorted_map.specs.Maps.{IsAfter}
 
--- the commands that were given, by number, the journal, and the actor of each call of the device, in order
+-- the commands that were given, by number, the journal, and the actor of each call of a device, in order
 pub record History : Type 0 where
   pub commands : List Command
   pub entries : List Entry
@@ -31,7 +31,7 @@ pub record History : Type 0 where
 abbrev pub nothing : History
 nothing = record { commands = []; entries = []; calls = [] }
 
-abbrev pub history_of : {D : Type 0} → BookState D → History
+abbrev pub history_of : {B : Type 0} → BookState B → History
 history_of book = record {
   commands = book.docket.commands;
   entries = book.ledger.entries;
@@ -93,7 +93,7 @@ pub record BeginsNext (before : History) (actor : Actor) (after : History) : Typ
 abbrev pub IsNoted : ℕ → List Entry → Type 0
 IsNoted number more = (more ≡ []) ⊎ (more ≡ Synced ∷ []) ⊎ ((change : Change) × (more ≡ Changed number change ∷ []))
 
--- the command that the actor runs makes one call of the device
+-- the command that the actor runs makes one call of a device
 pub record CallsOnce (before : History) (actor : Actor) (after : History) : Type 0 where
   pub number : ℕ
   pub more : List Entry

@@ -1,8 +1,6 @@
 -- What a script's lines ask of a Book.
 use Rattle.std.specs.Prelude.{◌≡◌, ◌≢◌, ℕ, MatchBool, List, [], ◌∷◌, ◌++◌, flat_map, Option, Some, IfSome, Contains}
 use Rattle.std.specs.FinMap as map
-use Rattle.tree_model.specs.Disk.{Disk}
-use Rattle.tree_model.specs.Counted.{Counts}
 use Rattle.journal_model.specs.declared.commands.Actor.{Actor}
 use Rattle.journal_model.specs.declared.commands.Command.{Command}
 use Rattle.journal_model.specs.declared.commands.Command.TheVariants.{Recover}
@@ -13,6 +11,7 @@ use Rattle.script_text.specs.declared.script.Line.TheVariants.{Seed, Do, Turns, 
 use Rattle.script_text.specs.Script.{is_stop, seed_of}
 use Rattle.journal_model.specs.declared.phase.Phase.{Phase}
 use Rattle.journal_model.specs.declared.phase.Phase.TheVariants.{Halted}
+use Rattle.bench.specs.Bench.{BenchState, Senses}
 use Rattle.vold_book.specs.State.{BookState}
 use Rattle.vold_book.specs.Whole.{IsWhole}
 use Rattle.vold_book.specs.Parts.{new_tracker}
@@ -47,11 +46,11 @@ abbrev pub orders_of : List Line → List Order
 orders_of lines = flat_map order_of lines
 
 -- a line that lets every actor work leaves nothing to do
-abbrev pub LeavesNothing : {D : Type 0} → Line → BookState D → Type 0
+abbrev pub LeavesNothing : {B : Type 0} → Line → BookState B → Type 0
 LeavesNothing line book = line ≡ All → NothingLeft book
 
 -- where the last line lets every actor work, nothing is left to do
-abbrev pub EndsIdle : {D : Type 0} → List Line → BookState D → Type 0
+abbrev pub EndsIdle : {B : Type 0} → List Line → BookState B → Type 0
 EndsIdle lines book = (before : List Line) (last : Line) → lines ≡ before ++ last ∷ [] → LeavesNothing last book
 
 -- the line before the next one, where `before` stands before the first
@@ -70,19 +69,19 @@ IsInOrder actor (number ∷ numbers) =
     ((other : ℕ) → Contains numbers other → ComesBy actor number other) × IsInOrder actor numbers
 
 -- a Book between the lines of a script
-pub record IsBetweenLines {D : Type 0} (disk : D → Disk) (counts : D → Counts) (book : BookState D) : Type 0 where
-  pub whole : IsWhole disk counts book
+pub record IsBetweenLines {D E : Type 0} (senses : Senses D E) (book : BookState (BenchState D E)) : Type 0 where
+  pub whole : IsWhole senses book
   pub level : book.tracker.level ≡ 1
   pub order : (actor : Actor) → IfSome (map.get book.docket.waiting actor) (IsInOrder actor)
 
 -- what turns leave of a Book: they give no command, and neither stop the machine nor start it again
-pub record IsKept {D : Type 0} (disk : D → Disk) (counts : D → Counts) (before after : BookState D) : Type 0 where
+pub record IsKept {D E : Type 0} (senses : Senses D E) (before after : BookState (BenchState D E)) : Type 0 where
   pub commands : after.docket.commands ≡ before.docket.commands
   pub orders : after.ledger.orders ≡ before.ledger.orders
   pub seed : after.seed ≡ before.seed
-  pub counted : CountsCalls counts before after
+  pub counted : CountsCalls senses before after
   pub still : before.tracker.phase ≢ Halted → after.tracker.phase ≢ Halted
-  pub between : IsBetweenLines disk counts after
+  pub between : IsBetweenLines senses after
 
 -- the machine is as the line wants it: a restart wants it to stand still, each other line that it doesn't
 abbrev pub IsReadyFor : Line → Phase → Type 0
@@ -94,31 +93,31 @@ IsReadyFor (Stop cut) phase = phase ≢ Halted
 IsReadyFor (Restart level) phase = phase ≡ Halted
 
 -- a line is done
-pub record IsLineDone {D : Type 0} (disk : D → Disk) (counts : D → Counts) (line : Line)
-    (before after : BookState D) : Type 0 where
+pub record IsLineDone {D E : Type 0} (senses : Senses D E) (line : Line)
+    (before after : BookState (BenchState D E)) : Type 0 where
   pub commands : after.docket.commands ≡ before.docket.commands ++ command_of line
   pub orders : after.ledger.orders ≡ before.ledger.orders ++ order_of line
   pub seed : after.seed ≡ before.seed
   pub fits : LineFits line (history_of before) (history_of after)
-  pub counted : CountsCalls counts before after
+  pub counted : CountsCalls senses before after
   pub idle : LeavesNothing line after
   pub still : StandsStill (Some line) after.tracker.phase
-  pub between : IsBetweenLines disk counts after
+  pub between : IsBetweenLines senses after
 
 -- lines are done, where `prior` is the line before them
-pub record AreLinesDone {D : Type 0} (disk : D → Disk) (counts : D → Counts) (prior : Option Line) (lines : List Line)
-    (before after : BookState D) : Type 0 where
+pub record AreLinesDone {D E : Type 0} (senses : Senses D E) (prior : Option Line) (lines : List Line)
+    (before after : BookState (BenchState D E)) : Type 0 where
   pub commands : after.docket.commands ≡ before.docket.commands ++ commands_of lines
   pub orders : after.ledger.orders ≡ before.ledger.orders ++ orders_of lines
   pub seed : after.seed ≡ before.seed
   pub fits : LinesFit lines (history_of before) (history_of after)
-  pub counted : CountsCalls counts before after
+  pub counted : CountsCalls senses before after
   pub idle : EndsIdle lines after
   pub still : StandsStill (last_of prior lines) after.tracker.phase
-  pub between : IsBetweenLines disk counts after
+  pub between : IsBetweenLines senses after
 
 -- a Book as it is opened for these lines, with nothing given out and nothing done
-pub record IsFresh {D : Type 0} (book : BookState D) (lines : List Line) : Type 0 where
+pub record IsFresh {B : Type 0} (book : BookState B) (lines : List Line) : Type 0 where
   pub history : history_of book ≡ nothing
   pub waiting : book.docket.waiting ≡ map.empty
   pub orders : book.ledger.orders ≡ []

@@ -3,27 +3,29 @@ use Rattle.std.specs.Prelude.{◌≡◌, ℕ, zero, suc, ◌<◌, ◌⊎◌, Lis
 use Rattle.std.specs.FinMap as map
 use Rattle.tree_model.specs.declared.device.DevFault.TheVariants.{Failed}
 use Rattle.tree_model.specs.Tree.{Tree}
-use Rattle.tree_model.specs.Disk.{Disk, view}
+use Rattle.tree_model.specs.Disk.{view}
 use Rattle.tree_model.specs.Counted.{Counts, IsCounted}
-use Rattle.journal_model.specs.declared.entries.Entry.{Entry}
+use Rattle.keystore_model.specs.Store.{Store}
 use Rattle.script_text.specs.Words.{line_of}
 use Rattle.script_text.specs.Journal.{journal_text}
-use Rattle.script_text.specs.Tree.{tree_section, shown}
-use Rattle.vold_book.specs.State.{BookState}
+use Rattle.script_text.specs.Keystore.{store_section}
+use Rattle.script_text.specs.Tree.{tree_section}
+use Rattle.bench.specs.Bench.{Plain as Seen}
+use Rattle.vold_book.specs.State.{Plain}
 
 -- the tree as it is printed
 abbrev pub tree_text : Tree → List ℕ
 tree_text tree = tree_section (codes "tree") (map.entries tree) None
 
--- the line in place of a tree that could not be read
-abbrev pub unread_text : List ℕ
-unread_text = line_of (codes "unread" ∷ codes "tree" ∷ [])
+-- the line in place of what comes from the tree on, where the tree could not be read
+abbrev pub unread_tree : List ℕ
+unread_tree = line_of (codes "unread" ∷ codes "tree" ∷ [])
 
--- what is shown where the tree could not be read: the journal, and that line
-abbrev pub shown_unread : List Entry → List ℕ
-shown_unread entries = journal_text entries ++ unread_text
+-- and in place of a keystore that could not be read
+abbrev pub unread_store : List ℕ
+unread_store = line_of (codes "unread" ∷ codes "store" ∷ [])
 
--- the counts of the device before and after a look that it answered, and before and after one in which it failed
+-- the counts of a device before and after a look that it answered, and before and after one in which it failed
 abbrev pub IsAnswered : Counts → Counts → Type 0
 IsAnswered before after = IsCounted {T = Unit {0}} before after (Ok tt)
 
@@ -40,26 +42,41 @@ abbrev pub looks_for : Tree → ℕ
 looks_for tree = suc (length (map.entries tree))
 
 -- exactly the looks were made that read the tree, and the device answered each
-abbrev pub ReadsTree : {D : Type 0} → (D → Disk) → (D → Counts) → BookState D → BookState D → Type 0
-ReadsTree disk counts before after =
-    AreAnswered (looks_for (view (disk before.tree))) (counts before.tree) (counts after.tree)
+abbrev pub ReadsTree : Tree → Counts → Counts → Type 0
+ReadsTree tree before after = AreAnswered (looks_for tree) before after
 
 -- the device failed in one of the looks that read the tree: it answered those before, and none was made after it
-pub record FailsToRead {D : Type 0} (disk : D → Disk) (counts : D → Counts) (before after : BookState D) : Type 0 where
+pub record FailsToRead (tree : Tree) (before after : Counts) : Type 0 where
   pub answered : ℕ
-  pub wanted : answered < looks_for (view (disk before.tree))
+  pub wanted : answered < looks_for tree
   pub reached : Counts
-  pub looks : AreAnswered answered (counts before.tree) reached
-  pub failed : IsFailed reached (counts after.tree)
+  pub looks : AreAnswered answered before reached
+  pub failed : IsFailed reached after
 
--- the tree, or where the device failed the line in its place
-abbrev pub ShowsTree : {D : Type 0} → (D → Disk) → (D → Counts) → BookState D → BookState D → List ℕ → Type 0
-ShowsTree disk counts before after text =
-    ((text ≡ tree_text (view (disk after.tree))) × ReadsTree disk counts before after)
-    ⊎ ((text ≡ unread_text) × FailsToRead disk counts before after)
+-- one look reads the keystore: the keystore, or where the device failed the line in its place
+abbrev pub ShowsStore : Store → Counts → Counts → List ℕ → Type 0
+ShowsStore store before after text =
+    ((text ≡ store_section store) × IsAnswered before after) ⊎ ((text ≡ unread_store) × IsFailed before after)
 
--- the journal and the tree, or where the device failed the line in place of the tree
-abbrev pub Shows : {D : Type 0} → (D → Disk) → (D → Counts) → BookState D → BookState D → List ℕ → Type 0
-Shows disk counts before after text =
-    ((text ≡ shown after.ledger.entries (view (disk after.tree))) × ReadsTree disk counts before after)
-    ⊎ ((text ≡ shown_unread after.ledger.entries) × FailsToRead disk counts before after)
+-- the tree was read, and the keystore after it
+pub record ReadsOn (before after : Seen) (text : List ℕ) : Type 0 where
+  pub store_text : List ℕ
+  pub is : text ≡ tree_text (view after.disk) ++ store_text
+  pub tree : ReadsTree (view before.disk) before.tree_counts after.tree_counts
+  pub store : ShowsStore after.store before.store_counts after.store_counts store_text
+
+-- the tree was not read, and the keystore was not looked at
+pub record ReadsNoFurther (before after : Seen) (text : List ℕ) : Type 0 where
+  pub is : text ≡ unread_tree
+  pub tree : FailsToRead (view before.disk) before.tree_counts after.tree_counts
+  pub store : after.store_counts ≡ before.store_counts
+
+-- the tree and then the keystore; where one was not read, a line in its place, and nothing behind it
+abbrev pub ShowsDevices : Seen → Seen → List ℕ → Type 0
+ShowsDevices before after text = ReadsOn before after text ⊎ ReadsNoFurther before after text
+
+-- the journal and then the devices
+pub record Shows (before after : Plain) (text : List ℕ) : Type 0 where
+  pub devices : List ℕ
+  pub is : text ≡ journal_text after.ledger.entries ++ devices
+  pub shown : ShowsDevices before.bench after.bench devices

@@ -1,29 +1,32 @@
 ghost use Rattle.std.specs.Prelude.{◌≢◌, ◌≤◌, ◌+◌, Err, IsOk, OnOk, length, None};
 ghost use Rattle.std.specs.List.{AllByRecursion};
 ghost use Rattle.script_text.specs.Script.{most_lines, IsLine, AreInOrder};
+ghost use Rattle.vold_book.specs.State.{senses};
 ghost use Rattle.vold_book.specs.Whole.{IsWhole};
 ghost use Rattle.vold_run.specs.Lines.{AreLinesDone, IsLineDone, IsBetweenLines, IsReadyFor, StandsStill};
 
 use crate::rounds;
 use journal_model::EnqueueFault;
+use keystore_model::Keystore;
 use script_text::Line;
 use std::alloc::Global;
 use tree_model::{NoMemory, TreeDisk};
 use vold_book::Book;
 
 /// Does the lines of a script on a Book, in order.
-pub fn do_lines<T: TreeDisk>(
+pub fn do_lines<T: TreeDisk, B: Keystore>(
     alloc: Global,
-    book: &mut Book<T>,
+    book: &mut Book<T, B>,
     lines: &[Line],
 ) -> Result<(), NoMemory>
-    requires between { IsBetweenLines T.disk T.counts book.old }
+    requires between { IsBetweenLines (senses T.disk T.counts B.store B.counts) book.old }
     requires still { StandsStill None book.old.tracker.phase }
     requires few { length book.old.docket.commands + length lines.now ≤ most_lines }
     requires lines { AllByRecursion IsLine lines.now }
     requires order { AreInOrder None lines.now }
-    ensures done { OnOk result (AreLinesDone T.disk T.counts None lines.now book.old book.new) }
-    ensures whole { IsWhole T.disk T.counts book.new }
+    ensures done { OnOk result
+        (AreLinesDone (senses T.disk T.counts B.store B.counts) None lines.now book.old book.new) }
+    ensures whole { IsWhole (senses T.disk T.counts B.store B.counts) book.new }
 {
     for line in lines {
         do_line(alloc, book, line)?;
@@ -32,13 +35,17 @@ pub fn do_lines<T: TreeDisk>(
 }
 
 /// Does one line.
-fn do_line<T: TreeDisk>(alloc: Global, book: &mut Book<T>, line: &Line) -> Result<(), NoMemory>
-    requires between { IsBetweenLines T.disk T.counts book.old }
+fn do_line<T: TreeDisk, B: Keystore>(
+    alloc: Global,
+    book: &mut Book<T, B>,
+    line: &Line,
+) -> Result<(), NoMemory>
+    requires between { IsBetweenLines (senses T.disk T.counts B.store B.counts) book.old }
     requires ready { IsReadyFor line.now book.old.tracker.phase }
     requires few { length book.old.docket.commands + 1 ≤ most_lines }
     requires line { IsLine line.now }
-    ensures done { OnOk result (IsLineDone T.disk T.counts line.now book.old book.new) }
-    ensures whole { IsWhole T.disk T.counts book.new }
+    ensures done { OnOk result (IsLineDone (senses T.disk T.counts B.store B.counts) line.now book.old book.new) }
+    ensures whole { IsWhole (senses T.disk T.counts B.store B.counts) book.new }
 {
     match line {
         Line::Seed(_) => Ok(()),

@@ -1,27 +1,39 @@
-ghost use Rattle.std.specs.Prelude.{◌≡◌, [], ◌∷◌, ◌++◌, IfOk, OnOk, IsErrOf};
-ghost use Rattle.std.specs.FinMap as map;
+ghost use Rattle.std.specs.Prelude.{◌≡◌, [], ◌∷◌, ◌++◌, IfOk, OnOk, IsErrOf, map};
+ghost use Rattle.std.specs.FinMap as finite;
 ghost use Rattle.tree_model.specs.Disk.{view};
+ghost use Rattle.keystore_model.specs.Store.{listed as listed_of, IsStore};
+ghost use Rattle.script_text.specs.Keystore.{row_of, store_section};
+ghost use Rattle.vold_book.specs.State.{seen, senses};
 ghost use Rattle.vold_book.specs.Whole.{IsWhole};
 ghost use Rattle.vold_book.specs.Stands.{IsLooked};
-ghost use Rattle.vold_run.specs.Shown.{FailsToRead, ReadsTree, ShowsTree, Shows};
+ghost use Rattle.vold_run.specs.Shown.{FailsToRead, ReadsTree, Shows, ShowsDevices, ShowsStore};
 
-use script_text::{print_journal, print_tree};
+use keystore_model::{Keystore, Tag};
+use script_text::{EntryRow, print_journal, print_keystore, print_tree};
 use std::alloc::Global;
-use tree_model::{Bytes, DevFault, Dir, NoMemory, Place, TreeDisk};
+use tree_model::{Blob, Bytes, DevFault, Dir, NoMemory, Place, TreeDisk};
 use vold_book::Book;
 
 /// The last line where the tree was not read.
-const UNREAD: &[u8] = b"unread tree\n";
+const UNREAD_TREE: &[u8] = b"unread tree\n";
 
-/// The text that a run shows of a Book in the end: its journal, and its tree, or that the tree was not read.
-pub fn show<T: TreeDisk>(alloc: Global, book: &mut Book<T>) -> Result<Bytes, NoMemory>
-    ensures shown { IfOk result (Shows T.disk T.counts book.old book.new) }
-    ensures looked { IsLooked T.disk book.old book.new }
-    ensures whole { IsWhole T.disk T.counts book.new }
+/// The last line where the keystore was not read.
+const UNREAD_STORE: &[u8] = b"unread store\n";
+
+/// The text that a run shows of a Book in the end: its journal, its tree and its keystore; from the first device on
+/// that was not read, one line tells it.
+pub fn show<T: TreeDisk, B: Keystore>(
+    alloc: Global,
+    book: &mut Book<T, B>,
+) -> Result<Bytes, NoMemory>
+    ensures shown { IfOk result (Shows (seen (senses T.disk T.counts B.store B.counts) book.old)
+        (seen (senses T.disk T.counts B.store B.counts) book.new)) }
+    ensures looked { IsLooked (senses T.disk T.counts B.store B.counts) book.old book.new }
+    ensures whole { IsWhole (senses T.disk T.counts B.store B.counts) book.new }
 {
     let journal = print_journal(alloc, book.journal().as_slice())?;
-    let tree = tree_text(alloc, book)?;
-    joined(alloc, journal.as_slice(), tree.as_slice())
+    let devices = devices_text(alloc, book)?;
+    joined(alloc, journal.as_slice(), devices.as_slice())
 }
 
 /// One text after another.
@@ -34,26 +46,40 @@ fn joined(alloc: Global, first: &[u8], second: &[u8]) -> Result<Bytes, NoMemory>
     Ok(Bytes::from_vec(text))
 }
 
-/// The tree as text, or the line that says that it was not read.
-fn tree_text<T: TreeDisk>(alloc: Global, book: &mut Book<T>) -> Result<Bytes, NoMemory>
-    ensures shown { IfOk result (ShowsTree T.disk T.counts book.old book.new) }
-    ensures looked { IsLooked T.disk book.old book.new }
-    ensures whole { IsWhole T.disk T.counts book.new }
+/// The tree and then the keystore as text; from the first on that was not read, one line tells it.
+fn devices_text<T: TreeDisk, B: Keystore>(
+    alloc: Global,
+    book: &mut Book<T, B>,
+) -> Result<Bytes, NoMemory>
+    ensures shown { IfOk result (ShowsDevices (seen (senses T.disk T.counts B.store B.counts) book.old).bench
+        (seen (senses T.disk T.counts B.store B.counts) book.new).bench) }
+    ensures looked { IsLooked (senses T.disk T.counts B.store B.counts) book.old book.new }
+    ensures whole { IsWhole (senses T.disk T.counts B.store B.counts) book.new }
 {
     match read_dirs(alloc, book) {
-        Ok(dirs) => print_tree(alloc, b"tree", dirs.as_slice(), None),
-        Err(DevFault::Failed) => Bytes::copy(alloc, UNREAD),
+        Ok(dirs) => {
+            let tree = print_tree(alloc, b"tree", dirs.as_slice(), None)?;
+            let store = store_text(alloc, book)?;
+            joined(alloc, tree.as_slice(), store.as_slice())
+        }
+        Err(DevFault::Failed) => Bytes::copy(alloc, UNREAD_TREE),
         Err(DevFault::NoMemory) => Err(NoMemory),
     }
 }
 
 /// Every directory of the view, in the order of the places.
-fn read_dirs<T: TreeDisk>(alloc: Global, book: &mut Book<T>) -> Result<Vec<(Place, Dir)>, DevFault>
-    ensures read { IfOk result (λ dirs. dirs.items ≡ map.entries (view (T.disk book.old.tree))) }
-    ensures answered { OnOk result (ReadsTree T.disk T.counts book.old book.new) }
-    ensures failed { IsErrOf result DevFault.Failed → FailsToRead T.disk T.counts book.old book.new }
-    ensures looked { IsLooked T.disk book.old book.new }
-    ensures whole { IsWhole T.disk T.counts book.new }
+fn read_dirs<T: TreeDisk, B: Keystore>(
+    alloc: Global,
+    book: &mut Book<T, B>,
+) -> Result<Vec<(Place, Dir)>, DevFault>
+    ensures read { IfOk result (λ dirs. dirs.items ≡ finite.entries (view (T.disk book.old.bench.tree))) }
+    ensures answered { OnOk result (ReadsTree (view (T.disk book.old.bench.tree)) (T.counts book.old.bench.tree)
+        (T.counts book.new.bench.tree)) }
+    ensures failed { IsErrOf result DevFault.Failed → FailsToRead (view (T.disk book.old.bench.tree))
+        (T.counts book.old.bench.tree) (T.counts book.new.bench.tree) }
+    ensures looked { IsLooked (senses T.disk T.counts B.store B.counts) book.old book.new }
+    ensures store { book.new.bench.store ≡ book.old.bench.store }
+    ensures whole { IsWhole (senses T.disk T.counts B.store B.counts) book.new }
 {
     let places = book.places()?;
     let mut dirs = Vec::new(alloc);
@@ -70,4 +96,60 @@ fn push_dir(dirs: &mut Vec<(Place, Dir)>, place: Place, dir: Dir) -> Result<(), 
 {
     dirs.push((place, dir))?;
     Ok(())
+}
+
+/// The keystore as text, or the line that says that it was not read.
+fn store_text<T: TreeDisk, B: Keystore>(
+    alloc: Global,
+    book: &mut Book<T, B>,
+) -> Result<Bytes, NoMemory>
+    ensures shown { IfOk result (ShowsStore (B.store book.old.bench.store) (B.counts book.old.bench.store)
+        (B.counts book.new.bench.store)) }
+    ensures tree { book.new.bench.tree ≡ book.old.bench.tree }
+    ensures looked { IsLooked (senses T.disk T.counts B.store B.counts) book.old book.new }
+    ensures whole { IsWhole (senses T.disk T.counts B.store B.counts) book.new }
+{
+    match book.blobs() {
+        Ok(entries) => section_of(alloc, book.store(), entries.as_slice()),
+        Err(DevFault::Failed) => Bytes::copy(alloc, UNREAD_STORE),
+        Err(DevFault::NoMemory) => Err(NoMemory),
+    }
+}
+
+/// The keystore with these entries as text.
+fn section_of<B: Keystore>(
+    alloc: Global,
+    store: &B,
+    entries: &[(Blob, Tag)],
+) -> Result<Bytes, NoMemory>
+    requires whole { IsStore (B.store store.now) }
+    requires listed { entries.now ≡ listed_of (B.store store.now) }
+    ensures { IfOk result (λ text. text ≡ store_section (B.store store.now)) }
+{
+    let rows = rows_of(alloc, store, entries)?;
+    print_keystore(alloc, store.level(), rows.as_slice())
+}
+
+/// What is printed of each of the entries.
+fn rows_of<B: Keystore>(
+    alloc: Global,
+    store: &B,
+    entries: &[(Blob, Tag)],
+) -> Result<Vec<EntryRow>, NoMemory>
+    requires whole { IsStore (B.store store.now) }
+    requires listed { entries.now ≡ listed_of (B.store store.now) }
+    ensures { IfOk result (λ rows. rows.items ≡ map row_of (B.store store.now).entries) }
+{
+    let mut rows = Vec::new(alloc);
+    for (blob, tag) in entries {
+        let Some(level) = store.level_of(*blob) else {
+            unreachable!()
+        };
+        rows.push(EntryRow {
+            blob: *blob,
+            level,
+            tag: *tag,
+        })?;
+    }
+    Ok(rows)
 }

@@ -1,4 +1,5 @@
 ghost use Rattle.std.specs.Prelude.{◌<◌, false, true, None, IfOk, OnOk, Some};
+ghost use Rattle.vold_book.specs.State.{senses};
 ghost use Rattle.vold_book.specs.Whole.{IsWhole, turns_left};
 ghost use Rattle.docket.specs.Docket.{IsNextBusy};
 ghost use Rattle.vold_run.specs.Fits.{AllFits, TurnsOf, history_of};
@@ -6,17 +7,18 @@ ghost use Rattle.vold_run.specs.Lines.{IsBetweenLines, IsKept};
 ghost use Rattle.vold_run.specs.Rounds.{NothingLeft, RoundEnds};
 
 use journal_model::Actor;
+use keystore_model::Keystore;
 use tree_model::{NoMemory, TreeDisk};
 use vold_book::{Book, Turn};
 
 /// Makes rounds, in each of which every busy actor has one turn in the order of actors, until the machine takes no
 /// turn of a busy actor.
-pub fn finish<T: TreeDisk>(book: &mut Book<T>) -> Result<(), NoMemory>
-    requires { IsBetweenLines T.disk T.counts book.old }
+pub fn finish<T: TreeDisk, B: Keystore>(book: &mut Book<T, B>) -> Result<(), NoMemory>
+    requires { IsBetweenLines (senses T.disk T.counts B.store B.counts) book.old }
     ensures fits { OnOk result (AllFits (history_of book.old) (history_of book.new)) }
     ensures idle { OnOk result (NothingLeft book.new) }
-    ensures kept { OnOk result (IsKept T.disk T.counts book.old book.new) }
-    ensures whole { IsWhole T.disk T.counts book.new }
+    ensures kept { OnOk result (IsKept (senses T.disk T.counts B.store B.counts) book.old book.new) }
+    ensures whole { IsWhole (senses T.disk T.counts B.store B.counts) book.new }
 {
     while let Some(first) = book.first_busy() {
         if !round(book, first)? {
@@ -28,12 +30,12 @@ pub fn finish<T: TreeDisk>(book: &mut Book<T>) -> Result<(), NoMemory>
 
 /// Makes one round from the first busy actor on, which leaves fewer turns. The answer is false where the machine
 /// takes no turn of that actor, and then none of the others either.
-fn round<T: TreeDisk>(book: &mut Book<T>, first: Actor) -> Result<bool, NoMemory>
-    requires between { IsBetweenLines T.disk T.counts book.old }
+fn round<T: TreeDisk, B: Keystore>(book: &mut Book<T, B>, first: Actor) -> Result<bool, NoMemory>
+    requires between { IsBetweenLines (senses T.disk T.counts B.store B.counts) book.old }
     requires first { IsNextBusy book.old.docket None (Some first) }
-    ensures ended { IfOk result (RoundEnds T.disk book.old book.new) }
-    ensures kept { OnOk result (IsKept T.disk T.counts book.old book.new) }
-    ensures whole { IsWhole T.disk T.counts book.new }
+    ensures ended { IfOk result (RoundEnds (senses T.disk T.counts B.store B.counts) book.old book.new) }
+    ensures kept { OnOk result (IsKept (senses T.disk T.counts B.store B.counts) book.old book.new) }
+    ensures whole { IsWhole (senses T.disk T.counts B.store B.counts) book.new }
 {
     let Turn::Went = book.advance(first)? else {
         return Ok(false);
@@ -49,11 +51,15 @@ fn round<T: TreeDisk>(book: &mut Book<T>, first: Actor) -> Result<bool, NoMemory
 }
 
 /// Gives the actor so many turns, of which those do nothing that it can't make.
-pub fn turns<T: TreeDisk>(book: &mut Book<T>, actor: Actor, count: u32) -> Result<(), NoMemory>
-    requires { IsBetweenLines T.disk T.counts book.old }
+pub fn turns<T: TreeDisk, B: Keystore>(
+    book: &mut Book<T, B>,
+    actor: Actor,
+    count: u32,
+) -> Result<(), NoMemory>
+    requires { IsBetweenLines (senses T.disk T.counts B.store B.counts) book.old }
     ensures fits { OnOk result (TurnsOf actor count (history_of book.old) (history_of book.new)) }
-    ensures kept { OnOk result (IsKept T.disk T.counts book.old book.new) }
-    ensures whole { IsWhole T.disk T.counts book.new }
+    ensures kept { OnOk result (IsKept (senses T.disk T.counts B.store B.counts) book.old book.new) }
+    ensures whole { IsWhole (senses T.disk T.counts B.store B.counts) book.new }
 {
     for _ in 0..count {
         book.advance(actor)?;

@@ -2,11 +2,13 @@ ghost use Rattle.std.specs.Prelude.{◌≡◌, ◌≢◌, ◌+◌, ◌≤◌, �
 ghost use Rattle.std.specs.FinMap as finite;
 ghost use Rattle.std.specs.Io.KnownBytes.{append_known};
 ghost use Rattle.std.specs.String.{string_bytes};
+ghost use Rattle.keystore_model.specs.Store.{empty_store};
 ghost use Rattle.script_text.specs.Script.{seed_of, IsPlaced};
 ghost use Rattle.script_text.specs.Status.{message_of};
 ghost use Rattle.tree_model.specs.Counted.{Rose};
+ghost use Rattle.vold_book.specs.State.{senses};
 ghost use Rattle.vold_book.specs.Whole.{IsWhole};
-ghost use Rattle.vold_book.specs.Turns.{new_book, opened_at};
+ghost use Rattle.vold_book.specs.Turns.{new_bench, new_book, opened_at};
 ghost use Rattle.vold_io.specs.Transfers.{LosesAtMost};
 ghost use Rattle.vold_run.specs.Lines.{IsFresh};
 ghost use Rattle.vold_run.specs.Input.{most_bytes, IsAccepted, IsRefused, RefusedCame, SomeScriptCame};
@@ -14,24 +16,27 @@ ghost use Rattle.vold_run.specs.Ends.{HasMessage, InPlaceOf, IsDone, LinesEnd};
 ghost use Rattle.vold_run.specs.Ends.{RunPrints, Takes, WorkEnds, WritesFront};
 
 use crate::{input, lines, output};
+use keystore_model::Keystore;
 use script_text::{Line, Script, Status};
 use std::alloc::Global;
 use tree_model::{Bytes, NoMemory, TreeDisk};
 use vold_book::{Book, RunEnd};
 use vold_io::{Sink, SinkFault, Source, write_all};
 
-/// Reads a script from the source, does its lines on a Book over the tree, and writes the Book's journal and tree to
-/// the sink. The words are those after the program's name; `run` alone is accepted. Where there is no script to do,
-/// the status's message is written and no Book is handed back. No more than one byte past the most that a script has
-/// is taken from the source.
-pub fn run<S: Source, K: Sink, T: TreeDisk>(
+/// Reads a script from the source, does its lines on a Book over the tree and the keystore, and writes the Book's
+/// journal, its tree and its keystore to the sink. The words are those after the program's name; `run` alone is
+/// accepted. Where there is no script to do, the status's message is written and no Book is handed back. No more than
+/// one byte past the most that a script has is taken from the source.
+pub fn run<S: Source, K: Sink, T: TreeDisk, B: Keystore>(
     alloc: Global,
     words: &[String],
     source: &mut S,
     sink: &mut K,
     tree: T,
-) -> RunEnd<T>
-    requires { T.disk tree ≡ record { stable = finite.empty; pending = [] } }
+    store: B,
+) -> RunEnd<T, B>
+    requires tree { T.disk tree ≡ record { stable = finite.empty; pending = [] } }
+    requires store { B.store store ≡ empty_store 1 }
     ensures usage { result.status ≡ Status.Usage → ¬ (IsAccepted (map string_bytes words.now)) }
     ensures other_words { ¬ (IsAccepted (map string_bytes words.now)) → InPlaceOf Status.Usage result.status }
     ensures unread { ¬ (IsAccepted (map string_bytes words.now)) → source.new ≡ source.old }
@@ -46,19 +51,22 @@ pub fn run<S: Source, K: Sink, T: TreeDisk>(
     ensures write_fault { result.status ≡ Status.WriteFault → Rose (K.fault_count sink.old) (K.fault_count sink.new) }
     ensures done { result.status ≡ Status.Done
         → IsSomeAnd result.book
-        (RunPrints T.disk T.counts (new_book tree (opened_at (T.counts tree))) (S.rest source.old) (S.rest source.new)
-        (K.taken sink.old) (K.taken sink.new)) }
+        (RunPrints (senses T.disk T.counts B.store B.counts)
+        (new_book (new_bench tree store) (opened_at (T.counts tree) (B.counts store)))
+        (S.rest source.old) (S.rest source.new) (K.taken sink.old) (K.taken sink.new)) }
     ensures message { HasMessage result.status
         → (K.taken sink.new ≡ append_known (K.taken sink.old) (message_of result.status)) × IsNone result.book }
     ensures front { result.status ≡ Status.WriteFault
-        → WritesFront T.disk T.counts (new_book tree (opened_at (T.counts tree))) (map string_bytes words.now)
-        (S.rest source.old) (S.rest source.new) (S.fault_count source.old) (S.fault_count source.new)
-        (K.taken sink.old) (K.taken sink.new) result.book }
+        → WritesFront (senses T.disk T.counts B.store B.counts)
+        (new_book (new_bench tree store) (opened_at (T.counts tree) (B.counts store)))
+        (map string_bytes words.now) (S.rest source.old) (S.rest source.new)
+        (S.fault_count source.old) (S.fault_count source.new) (K.taken sink.old) (K.taken sink.new) result.book }
     ensures no_memory { result.status ≡ Status.NoMemory
         → (K.taken sink.new ≡ K.taken sink.old)
-        ⊎ (WritesFront T.disk T.counts (new_book tree (opened_at (T.counts tree))) (map string_bytes words.now)
-        (S.rest source.old) (S.rest source.new) (S.fault_count source.old) (S.fault_count source.new)
-        (K.taken sink.old) (K.taken sink.new) result.book) }
+        ⊎ (WritesFront (senses T.disk T.counts B.store B.counts)
+        (new_book (new_bench tree store) (opened_at (T.counts tree) (B.counts store)))
+        (map string_bytes words.now) (S.rest source.old) (S.rest source.new)
+        (S.fault_count source.old) (S.fault_count source.new) (K.taken sink.old) (K.taken sink.new) result.book) }
     ensures book { IfSome result.book
         (λ _. IsAccepted (map string_bytes words.now) × SomeScriptCame (S.rest source.old) (S.rest source.new)
         × InPlaceOf Status.Done result.status) }
@@ -69,10 +77,10 @@ pub fn run<S: Source, K: Sink, T: TreeDisk>(
     ensures complete { IsAccepted (map string_bytes words.now) → S.never_fails source.old → K.never_fails sink.old
         → IfSome (S.rest source.old)
         (λ told. ¬ (IsRefused told) → (result.status ≡ Status.Done) ⊎ (result.status ≡ Status.NoMemory)) }
-    ensures whole { IfSome result.book (IsWhole T.disk T.counts) }
+    ensures whole { IfSome result.book (IsWhole (senses T.disk T.counts B.store B.counts)) }
 {
     match input::script_of(alloc, words, source) {
-        Ok(script) => run_script(alloc, &script, sink, tree),
+        Ok(script) => run_script(alloc, &script, sink, tree, store),
         Err(status) => RunEnd {
             status: write(sink, status.message(), status),
             book: None,
@@ -80,21 +88,24 @@ pub fn run<S: Source, K: Sink, T: TreeDisk>(
     }
 }
 
-/// Does a script's lines on a new Book over the tree, and writes what shows it.
-fn run_script<K: Sink, T: TreeDisk>(
+/// Does a script's lines on a new Book over the devices, and writes what shows it.
+fn run_script<K: Sink, T: TreeDisk, B: Keystore>(
     alloc: Global,
     script: &Script,
     sink: &mut K,
     tree: T,
-) -> RunEnd<T>
-    requires empty { T.disk tree ≡ record { stable = finite.empty; pending = [] } }
-    ensures ended { LinesEnd T.disk T.counts (new_book tree (opened_at (T.counts tree)) (seed_of script.now))
-        script.now (K.taken sink.old) (K.taken sink.new) result.status result.book }
+    store: B,
+) -> RunEnd<T, B>
+    requires tree { T.disk tree ≡ record { stable = finite.empty; pending = [] } }
+    requires store { B.store store ≡ empty_store 1 }
+    ensures ended { LinesEnd (senses T.disk T.counts B.store B.counts)
+        (new_book (new_bench tree store) (opened_at (T.counts tree) (B.counts store)) (seed_of script.now)) script.now
+        (K.taken sink.old) (K.taken sink.new) result.status result.book }
     ensures faults { result.status ≡ Status.WriteFault → Rose (K.fault_count sink.old) (K.fault_count sink.new) }
     ensures steady { K.never_fails sink.old → result.status ≢ Status.WriteFault }
-    ensures whole { IfSome result.book (IsWhole T.disk T.counts) }
+    ensures whole { IfSome result.book (IsWhole (senses T.disk T.counts B.store B.counts)) }
 {
-    match opened(alloc, script.seed(), tree) {
+    match opened(alloc, script.seed(), tree, store) {
         Err(NoMemory) => RunEnd {
             status: Status::NoMemory,
             book: None,
@@ -109,30 +120,38 @@ fn run_script<K: Sink, T: TreeDisk>(
     }
 }
 
-/// A new Book over the tree, with this seed.
-fn opened<T: TreeDisk>(alloc: Global, seed: &[u8], tree: T) -> Result<Book<T>, NoMemory>
-    requires empty { T.disk tree ≡ record { stable = finite.empty; pending = [] } }
+/// A new Book over the devices, with this seed.
+fn opened<T: TreeDisk, B: Keystore>(
+    alloc: Global,
+    seed: &[u8],
+    tree: T,
+    store: B,
+) -> Result<Book<T, B>, NoMemory>
+    requires tree { T.disk tree ≡ record { stable = finite.empty; pending = [] } }
+    requires store { B.store store ≡ empty_store 1 }
     requires short { length seed.now ≤ 64 }
-    ensures opened { IfOk result (λ book. book ≡ new_book tree (opened_at (T.counts tree)) seed.now) }
-    ensures whole { IfOk result (IsWhole T.disk T.counts) }
+    ensures opened { IfOk result (λ book. book
+        ≡ new_book (new_bench tree store) (opened_at (T.counts tree) (B.counts store)) seed.now) }
+    ensures whole { IfOk result (IsWhole (senses T.disk T.counts B.store B.counts)) }
 {
-    Book::open(alloc, tree, Bytes::copy(alloc, seed)?, 1)
+    Book::open(alloc, tree, store, Bytes::copy(alloc, seed)?, 1)
 }
 
 /// Does the lines on a new Book, and writes what shows it.
-fn work<K: Sink, T: TreeDisk>(
+fn work<K: Sink, T: TreeDisk, B: Keystore>(
     alloc: Global,
-    book: &mut Book<T>,
+    book: &mut Book<T, B>,
     lines: &[Line],
     sink: &mut K,
 ) -> Status
-    requires whole { IsWhole T.disk T.counts book.old }
+    requires whole { IsWhole (senses T.disk T.counts B.store B.counts) book.old }
     requires fresh { IsFresh book.old lines.now }
     requires placed { IsPlaced lines.now }
-    ensures ended { WorkEnds T.disk T.counts book.old lines.now book.new (K.taken sink.old) (K.taken sink.new) result }
+    ensures ended { WorkEnds (senses T.disk T.counts B.store B.counts) book.old lines.now book.new
+        (K.taken sink.old) (K.taken sink.new) result }
     ensures faults { result ≡ Status.WriteFault → Rose (K.fault_count sink.old) (K.fault_count sink.new) }
     ensures steady { K.never_fails sink.old → result ≢ Status.WriteFault }
-    ensures whole { IsWhole T.disk T.counts book.new }
+    ensures whole { IsWhole (senses T.disk T.counts B.store B.counts) book.new }
 {
     match done(alloc, book, lines) {
         Ok(text) => write(sink, text.as_slice(), Status::Done),
@@ -141,12 +160,16 @@ fn work<K: Sink, T: TreeDisk>(
 }
 
 /// Does the lines on a new Book, and answers the text that shows it.
-fn done<T: TreeDisk>(alloc: Global, book: &mut Book<T>, lines: &[Line]) -> Result<Bytes, NoMemory>
-    requires whole { IsWhole T.disk T.counts book.old }
+fn done<T: TreeDisk, B: Keystore>(
+    alloc: Global,
+    book: &mut Book<T, B>,
+    lines: &[Line],
+) -> Result<Bytes, NoMemory>
+    requires whole { IsWhole (senses T.disk T.counts B.store B.counts) book.old }
     requires fresh { IsFresh book.old lines.now }
     requires placed { IsPlaced lines.now }
-    ensures done { IfOk result (IsDone T.disk T.counts book.old lines.now book.new) }
-    ensures whole { IsWhole T.disk T.counts book.new }
+    ensures done { IfOk result (IsDone (senses T.disk T.counts B.store B.counts) book.old lines.now book.new) }
+    ensures whole { IsWhole (senses T.disk T.counts B.store B.counts) book.new }
 {
     lines::do_lines(alloc, book, lines)?;
     output::show(alloc, book)

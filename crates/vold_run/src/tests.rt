@@ -1,5 +1,6 @@
 use crate::run;
 use journal_model::{Actor, Command, Entry, Reply};
+use keystore_memory::MemKeystore;
 use std::alloc::Global;
 use std::test::Fail;
 use tree_memory::MemTree;
@@ -48,9 +49,9 @@ fn a_further_recovery_makes_up_for_a_sync(rt: HostRuntime) -> Result<(), Fail> {
     assert!(rt; book.standing(1) == Standing::Answered(Reply::TreeFault));
     assert!(rt; book.enqueue(Command::Recover) == Ok(2));
     assert!(rt; book.standing(2) == Standing::Queued);
-    for turn in 0u32..5 {
+    for turn in 0u32..6 {
         let made = book.advance(Actor::Boot)?;
-        assert!(rt; (made == Turn::Went) == (turn < 4));
+        assert!(rt; (made == Turn::Went) == (turn < 5));
     }
     assert!(rt; book.ready());
     assert!(rt; book.standing(2) == Standing::Answered(Reply::Ended(0)));
@@ -61,14 +62,15 @@ fn a_further_recovery_makes_up_for_a_sync(rt: HostRuntime) -> Result<(), Fail> {
 }
 
 /// The Book of a create that was stopped behind its first rename, once the sync of the recovery behind it failed.
-fn failed_recovery(alloc: Global) -> Result<Option<Book<MemTree>>, NoMemory> {
-    let script = b"create 10\nturn 10 6\nstop 1\nrestart 1\nall\n";
+fn failed_recovery(alloc: Global) -> Result<Option<Book<MemTree, MemKeystore>>, NoMemory> {
+    let script = b"create 10\nturn 10 11\nstop 1\nrestart 1\nall\n";
     let mut tree = MemTree::new(alloc)?;
-    tree.plan_fault(8)?;
+    tree.plan_fault(10)?;
+    let store = MemKeystore::new(alloc)?;
     let mut source = MemSource::new(Bytes::copy(alloc, script)?, None);
     let mut sink = MemSink::new(alloc, None);
     let words = words_of(alloc, "run")?;
-    Ok(run(alloc, words.as_slice(), &mut source, &mut sink, tree).book)
+    Ok(run(alloc, words.as_slice(), &mut source, &mut sink, tree, store).book)
 }
 
 /// The text in place of the output.
@@ -88,9 +90,10 @@ fn ran(
 ) -> Result<Written, NoMemory> {
     let words = words_of(alloc, words)?;
     let tree = MemTree::new(alloc)?;
+    let store = MemKeystore::new(alloc)?;
     let mut source = MemSource::new(Bytes::copy(alloc, b"create 10\nall\n")?, failing_read);
     let mut sink = MemSink::new(alloc, failing_write);
-    let end = run(alloc, words.as_slice(), &mut source, &mut sink, tree);
+    let end = run(alloc, words.as_slice(), &mut source, &mut sink, tree, store);
     Ok(Written {
         sink,
         status: end.status.number(),

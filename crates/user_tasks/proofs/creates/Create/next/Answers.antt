@@ -1,46 +1,81 @@
-use Rattle.std.proofs.Common.{ap, ◌∙◌}
-use Rattle.user_tasks.specs.declared.creates.Stage.TheVariants.{Settled}
-use Rattle.user_tasks.proofs.CreateTurns.{clear-turn, make_ce-turn, version-turn, key-turn}
-use Rattle.user_tasks.proofs.CreateTurns.{rename_ce-turn, make_de-turn, rename_de-turn}
+use Rattle.std.proofs.Common.{subst, sym}
+use Rattle.std.specs.Prelude.{IfOk}
+use Rattle.journal_model.specs.declared.commands.Reply.TheVariants.{Done}
+use Rattle.task_turns.specs.declared.next.Next.TheVariants.{Reply}
+use Rattle.task_turns.specs.Turns.{Asks}
+use Rattle.user_tasks.specs.Tasks.{UserTurns, UserJobs, tasks}
+use Rattle.user_tasks.proofs.AskedJobs.{clearing-asks, ce-asks, de-asks}
+use Rattle.user_tasks.proofs.CreateTurns.{clear-turn, begin-turn, ce-turn, de-turn, sync-turn, reply-turn}
+use Rattle.user_tasks.proofs.CreateTurns.{turns-given}
+use Rattle.user_tasks.proofs.JobNumbers.{call-jobs, begin-jobs, ce-jobs, de-jobs}
 use Rattle.user_tasks.proofs.creates.Create.next.Goals as goal
 
 pub returns-in-Some : goal.returns-in-Some
-returns-in-Some c = record {
-  turn = clear-turn c.args.seed.now c.args.self.now c.args.in_the_way _ c.in-Some.site c.in-Clearing.is c.in-Some.is
-      c.op.ensures;
-}
+returns-in-Some c =
+    let way = c.args.in_the_way in
+    let next = c.quiet.result in record {
+      turn = subst (λ create. UserTurns create way next) c.self.view_is
+          (clear-turn _ c.self.invariant way c.in-Some.site next c.in-Clearing.is c.in-Some.is c.quiet.ensures);
+      asks = subst (Asks tasks c.args.self.now) (sym c.quiet.ensures) tt;
+      jobs = call-jobs c.args.self.now way next _ _ c.quiet.ensures;
+    }
 
 pub returns-in-None : goal.returns-in-None
-returns-in-None c = record {
-  turn = make_ce-turn c.args.seed.now c.args.self.now c.args.in_the_way _ c.in-Clearing.is c.in-None.is
-      c.op-in-None.ensures;
-}
+returns-in-None c =
+    let way = c.args.in_the_way in
+    let result = c.store_turn.result in record {
+      turn = subst (λ create. IfOk result (UserTurns create way)) c.self.view_is
+          (turns-given _ _ result c.store_turn.ensures.turn
+          (λ next turn. begin-turn _ c.self.invariant way next c.in-Clearing.is c.in-None.is turn));
+      asks = subst (λ create. IfOk c.store_turn.result (Asks tasks create)) c.self.view_is
+          (clearing-asks _ c.store_turn.result c.in-Clearing.is c.store_turn.ensures.turn);
+      jobs = subst (λ create. IfOk result (UserJobs create way)) c.self.view_is
+          (turns-given _ _ result c.store_turn.ensures.turn
+          (λ next turn. begin-jobs _ c.self.invariant way next c.in-Clearing.is c.in-None.is turn));
+    }
 
-pub returns-in_ok-version-in-Made : goal.returns-in_ok-version-in-Made
-returns-in_ok-version-in-Made c = record {
-  turn = version-turn c.args.seed.now c.args.self.now c.args.in_the_way _ c.in-Made.class c.in-Made.is
-      (rw c.in_ok-version-in-Made.ensures at c.op-in-Made.ensures);
-}
+pub returns-in-StoringCe : goal.returns-in-StoringCe
+returns-in-StoringCe c =
+    let way = c.args.in_the_way in
+    let result = c.store_turn-in-StoringCe.result in record {
+      turn = subst (λ create. IfOk result (UserTurns create way)) c.self.view_is
+          (turns-given _ _ result c.store_turn-in-StoringCe.ensures.turn
+          (λ next turn. ce-turn _ c.self.invariant way next c.in-StoringCe.is turn));
+      asks = subst (λ create. IfOk c.store_turn-in-StoringCe.result (Asks tasks create)) c.self.view_is
+          (ce-asks _ c.store_turn-in-StoringCe.result c.in-StoringCe.is c.store_turn-in-StoringCe.ensures.turn);
+      jobs = subst (λ create. IfOk result (UserJobs create way)) c.self.view_is
+          (turns-given _ _ result c.store_turn-in-StoringCe.ensures.turn
+          (λ next turn. ce-jobs _ c.self.invariant way next c.in-StoringCe.is turn));
+    }
 
-pub returns-in_ok-key-in-Versioned : goal.returns-in_ok-key-in-Versioned
-returns-in_ok-key-in-Versioned c = record {
-  turn = key-turn c.args.seed.now c.args.self.now c.args.in_the_way _ c.in-Versioned.class c.in-Versioned.is
-      (rw c.in_ok-key-in-Versioned.ensures at c.op-in-Versioned.ensures);
-}
+pub returns-in-StoringDe : goal.returns-in-StoringDe
+returns-in-StoringDe c =
+    let way = c.args.in_the_way in
+    let result = c.store_turn-in-StoringDe.result in record {
+      turn = subst (λ create. IfOk result (UserTurns create way)) c.self.view_is
+          (turns-given _ _ result c.store_turn-in-StoringDe.ensures.turn
+          (λ next turn. de-turn _ c.self.invariant way next c.in-StoringDe.is turn));
+      asks = subst (λ create. IfOk c.store_turn-in-StoringDe.result (Asks tasks create)) c.self.view_is
+          (de-asks _ c.store_turn-in-StoringDe.result c.in-StoringDe.is c.store_turn-in-StoringDe.ensures.turn);
+      jobs = subst (λ create. IfOk result (UserJobs create way)) c.self.view_is
+          (turns-given _ _ result c.store_turn-in-StoringDe.ensures.turn
+          (λ next turn. de-jobs _ c.self.invariant way _ next c.in-StoringDe.is turn));
+    }
 
-pub returns-in-Ce : goal.returns-in-Ce
-returns-in-Ce c = record {
-  turn = rename_ce-turn c.args.seed.now c.args.self.now c.args.in_the_way _ (c.in-Settled.is ∙ ap Settled c.in-Ce.is)
-      c.op-in-Ce.ensures;
-}
+pub returns-in-Created : goal.returns-in-Created
+returns-in-Created c =
+    let way = c.args.in_the_way in
+    let next = c.quiet-in-Created.result in record {
+      turn = subst (λ create. UserTurns create way next) c.self.view_is
+          (sync-turn _ c.self.invariant way next c.in-Created.is c.quiet-in-Created.ensures);
+      asks = subst (Asks tasks c.args.self.now) (sym c.quiet-in-Created.ensures) tt;
+      jobs = call-jobs c.args.self.now way next _ _ c.quiet-in-Created.ensures;
+    }
 
-pub returns-in-De : goal.returns-in-De
-returns-in-De c = record {
-  turn = rename_de-turn c.args.seed.now c.args.self.now c.args.in_the_way _ (c.in-Settled.is ∙ ap Settled c.in-De.is)
-      c.change.ensures;
-}
-
-pub returns-in-Renamed : goal.returns-in-Renamed
-returns-in-Renamed c = record {
-  turn = make_de-turn c.args.seed.now c.args.self.now c.args.in_the_way _ c.in-Renamed.is c.op-in-Renamed.ensures;
+pub returns-in-Ended : goal.returns-in-Ended
+returns-in-Ended c = record {
+  turn = subst (λ create. UserTurns create c.args.in_the_way (Reply Done)) c.self.view_is
+      (reply-turn _ c.self.invariant c.args.in_the_way c.in-Ended.is);
+  asks = tt;
+  jobs = λ scene images clear rests. tt;
 }

@@ -1,26 +1,34 @@
-use Rattle.vold_book.proofs.Went.{begins-falls, goes-once, goes-isolates, goes-falls}
+use Rattle.bench.specs.Bench.{Senses}
+use Rattle.vold_book.specs.State.{senses}
+use Rattle.vold_book.proofs.Books.{begins-falls}
+use Rattle.vold_book.proofs.Went.{goes-once, goes-isolates, goes-falls, goes-up}
+use Rattle.vold_book.proofs.book.Book.advance.Given.{Over}
 use Rattle.vold_book.proofs.book.Book.advance.Goals as goal
+
+abbrev means : (g : Over) → Senses g.row.T.Denot g.row.K.Denot
+means g = senses g.T.TreeDisk.disk g.T.TreeDisk.counts g.K.Keystore.store g.K.Keystore.counts
 
 pub returns-in_ok-begin-in-Begin-clause-falls : goal.returns-in_ok-begin-in-Begin-clause-falls
 returns-in_ok-begin-in-Begin-clause-falls g c =
-    begins-falls g.T.TreeDisk.disk g.T.TreeDisk.counts c.args.self.now c.begin.new.self c.args.actor
-    c.in-Begin.ensures.whole
+    begins-falls (means g) c.args.self.now c.in-Begin.ensures.whole c.begin.new.self c.args.actor
     c.in-Begin.ensures.step.0 c.in_ok-begin-in-Begin.ensures.begun
 
 pub returns-in_ok-go_on-in-GoOn-clause-turn : goal.returns-in_ok-go_on-in-GoOn-clause-turn
 returns-in_ok-go_on-in-GoOn-clause-turn g c =
-    goes-once g.T.TreeDisk.disk g.T.TreeDisk.counts c.args.self.now c.go_on.new.self c.args.actor
-    c.in-GoOn.ensures.whole
-    c.in-GoOn.it c.in-GoOn.ensures.step c.in_ok-go_on-in-GoOn.ensures.turned
+    goes-once (means g) c.args.self.now c.go_on.new.self c.args.actor c.in-GoOn.ensures.whole
+    c.in_ok-go_on-in-GoOn.ensures.turned
 
 pub returns-in_ok-go_on-in-GoOn-clause-others : goal.returns-in_ok-go_on-in-GoOn-clause-others
 returns-in_ok-go_on-in-GoOn-clause-others g c =
-    goes-isolates g.T.TreeDisk.disk g.T.TreeDisk.counts c.args.self.now c.go_on.new.self c.args.actor
-    c.in-GoOn.ensures.whole
-    c.in-GoOn.it c.in_ok-go_on-in-GoOn.ensures.turned
+    goes-isolates (means g) c.args.self.now c.go_on.new.self c.args.actor c.in-GoOn.ensures.whole
+    c.in_ok-go_on-in-GoOn.ensures.turned
 
 pub returns-in_ok-go_on-in-GoOn-clause-falls : goal.returns-in_ok-go_on-in-GoOn-clause-falls
 returns-in_ok-go_on-in-GoOn-clause-falls g c =
-    goes-falls g.T.TreeDisk.disk g.T.TreeDisk.counts c.args.self.now c.go_on.new.self c.args.actor
-    c.in-GoOn.ensures.whole
-    c.in-GoOn.it c.in_ok-go_on-in-GoOn.ensures.turned
+    goes-falls (means g) c.args.self.now c.go_on.new.self c.args.actor c.in-GoOn.ensures.whole
+    c.in_ok-go_on-in-GoOn.ensures.turned
+
+pub returns-in_ok-go_on-in-GoOn-clause-ready : goal.returns-in_ok-go_on-in-GoOn-clause-ready
+returns-in_ok-go_on-in-GoOn-clause-ready g c =
+    goes-up (means g) c.args.self.now c.go_on.new.self c.args.actor c.in-GoOn.ensures.whole
+    c.in_ok-go_on-in-GoOn.ensures.turned

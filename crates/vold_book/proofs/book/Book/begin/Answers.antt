@@ -1,57 +1,79 @@
 use Rattle.std.proofs.Common.{ap, sym, subst, ◌∙◌}
-use Rattle.std.specs.Prelude.{Some, IsNone}
+use Rattle.std.specs.Prelude.{Some, IsNone, cond}
 use Rattle.std.specs.FinMap as map
-use Rattle.journal_model.specs.Machine.{TakesTurn}
 use Rattle.journal_model.specs.Actor.{actor_cmp}
-use Rattle.docket.specs.Docket.{docket_of}
-use Rattle.vold_book.specs.State.{BookState, book_of}
+use Rattle.journal_model.specs.Machine.{TakesTurn}
 use Rattle.journal_model.specs.Refusals.{refusal_of}
-use Rattle.vold_book.specs.Turns.{Begins, FirstTask, facts_in}
-use Rattle.vold_book.proofs.Books.{begun-book, begins-whole, few-begin}
+use Rattle.docket.specs.Docket.{docket_of}
+use Rattle.bench.specs.Bench.{BenchState, Senses}
+use Rattle.vold_book.specs.State.{BookState, book_of, senses}
+use Rattle.vold_book.specs.Turns.{Begins, FirstTask, facts_in, unlisted}
+use Rattle.vold_book.proofs.Books.{begun-book, begins-whole}
+use Rattle.vold_book.proofs.Machines.{few-begin}
 use Rattle.vold_book.proofs.book.Book.begin.Given.{Over}
 use Rattle.vold_book.proofs.book.Book.begin.Goals as goal
 
-pub begin-requires-clause-few : goal.begin-requires-clause-few
-begin-requires-clause-few g c = few-begin g.T.TreeDisk.disk g.T.TreeDisk.counts _ c.self.invariant c.args.actor
+abbrev means : (g : Over) → Senses g.row.T.Denot g.row.K.Denot
+means g = senses g.T.TreeDisk.disk g.T.TreeDisk.counts g.K.Keystore.store g.K.Keystore.counts
 
-abbrev before : (g : Over) (c : goal.After-enter g) → BookState g.row.T.Denot
+pub begin-requires-clause-few : goal.begin-requires-clause-few
+begin-requires-clause-few g c = few-begin (means g) _ c.self.invariant c.args.actor
+
+abbrev before : (g : Over) (c : goal.After-enter g) → BookState (BenchState g.row.T.Denot g.row.K.Denot)
 before g c = book_of (record {
-  tree = c.self.inside.tree;
+  tree = c.self.inside.bench.tree;
+  store = c.self.inside.bench.store;
+  places = c.self.inside.bench.table.places;
+  list = c.self.inside.bench.list;
   opened = c.self.inside.opened;
   seed = c.self.inside.seed;
+  boot_seed = c.self.inside.bench.seed;
   ledger = c.self.inside.ledger.now;
   docket = c.self.inside.docket;
   tracker = c.self.inside.tracker.now;
-  places = c.self.inside.places;
 })
 
-abbrev after : (g : Over) (c : goal.After-enter g) → BookState g.row.T.Denot
-after g c = book_of (record {
-  tree = c.self.inside.tree;
-  opened = c.self.inside.opened;
-  seed = c.self.inside.seed;
+abbrev bench : (g : Over) (c : goal.After-enter g) → BenchState g.row.T.Denot g.row.K.Denot
+bench g c = record {
+  tree = c.begin_on.new.bench.tree;
+  store = c.begin_on.new.bench.store;
+  places = c.begin_on.new.bench.table.places;
+  list = c.begin_on.new.bench.list;
+}
+
+abbrev after : (g : Over) (c : goal.After-enter g) → BookState (BenchState g.row.T.Denot g.row.K.Denot)
+after g c = record (before g c) {
+  bench = bench g c;
+  boot_seed = c.begin_on.new.bench.seed;
   ledger = c.enter.new.self.now;
-  docket = c.begin.new.self;
-  tracker = c.self.inside.tracker.now;
-  places = c.self.inside.places;
-})
+  docket = docket_of actor_cmp c.begin.new.self;
+}
 
 begun : (g : Over) (c : goal.After-enter g) → Begins (before g c) (after g c) c.args.actor
 begun g c =
     begun-book (before g c) c.args.actor c.first-number.result c.in_ok-begin.field-0 c.in_ok-command.command
-    c.first_task-task.result c.boot.result c.begun.result c.reserve.new.self.now c.enter.new.self.now
+    c.in_ok-task.task (record { boot = c.boot.result; index = c.begun.result }) (bench g c)
+    c.begin_on.new.bench.seed c.reserve.new.self.now c.enter.new.self.now
     (docket_of actor_cmp c.begin.new.self) c.in_ok-begin.ensures.begun c.first-number.ensures.first
     (c.command.ensures ∙ ap Some (sym c.in_ok-command.ensures)) c.boot.ensures c.begun.ensures
     (subst (λ b. FirstTask c.in_ok-command.command (record { boot = c.boot.result; index = c.begun.result })
-    (refusal_of c.in_ok-command.command (facts_in b c.in_ok-command.command)) c.first_task-task.result)
-    (sym c.self.view_is) c.first_task-task.ensures)
-    c.in_ok-reserve.ensures.same c.enter.ensures
+    b.boot_seed (refusal_of c.in_ok-command.command (facts_in b.bench.places b c.in_ok-command.command))
+    c.in_ok-task.task) (sym c.self.view_is) c.in_ok-task.ensures)
+    (λ i. record {
+      tree = c.begin_on.ensures.tree i;
+      store = c.begin_on.ensures.store i;
+      places = (c.begin_on.ensures.places
+          ∙ ap (λ anew. cond anew map.empty c.self.inside.bench.table.places) c.begins_anew-anew.ensures) i;
+      list = (c.begin_on.ensures.list
+          ∙ ap (λ anew. cond anew (unlisted c.self.inside.bench.list) c.self.inside.bench.list)
+          c.begins_anew-anew.ensures) i;
+    }) c.begin_on.ensures.seed c.in_ok-reserve.ensures.same c.enter.ensures
 
 pub invariant_of-self-2 : goal.invariant_of-self-2
 invariant_of-self-2 g c =
-    begins-whole g.T.TreeDisk.disk g.T.TreeDisk.counts (before g c) c.self.invariant (after g c) c.args.actor
-    (subst (λ b. IsNone (map.get b.docket.running c.args.actor)) (sym c.self.view_is) c.requires.idle)
-    (subst (λ b. TakesTurn b.tracker.phase c.args.actor) (sym c.self.view_is) c.requires.takes) (begun g c)
+    begins-whole (means g) (before g c) c.self.invariant (after g c) c.args.actor
+    (subst (λ b. IsNone (map.get b.docket.running c.args.actor)) (sym c.self.view_is) c.requires.idle) (begun g c)
+    (subst (λ b. TakesTurn b.tracker.phase c.args.actor) (sym c.self.view_is) c.requires.takes)
 
 pub returns-clause-begun : goal.returns-clause-begun
 returns-clause-begun g c = subst (λ b. Begins b (after g c) c.args.actor) c.self.view_is (begun g c)

@@ -1,37 +1,48 @@
 use Rattle.std.proofs.Common.{◌≡◌, sym, subst}
-use Rattle.std.specs.Prelude.{Some}
-use Rattle.std.specs.FinMap as map
-use Rattle.sorted_map.specs.Maps.{held}
-use Rattle.tree_model.specs.Order.{place_cmp}
-use Rattle.vold_book.specs.Places.{IsNextSite}
-use Rattle.vold_book.specs.State.{seen}
-use Rattle.user_tasks.specs.Tasks.{UserTurns}
-use Rattle.vold_book.specs.Steps.{as_user, as_recovery}
+use Rattle.std.proofs.lemmas.Result.{IfOk-weaker}
+use Rattle.std.specs.Prelude.{None, IfOk}
+use Rattle.journal_model.specs.declared.commands.Actor.{Actor}
+use Rattle.task_turns.specs.declared.next.Next.{Next}
+use Rattle.vold_book.specs.declared.plans.Planned.{Planned}
+use Rattle.vold_book.specs.declared.tasks.Running.{Running}
+use Rattle.vold_book.specs.Plans.{next_of}
+use Rattle.vold_book.specs.State.{Plain, seen, senses}
+use Rattle.vold_book.specs.Steps.{IsPlanned, task_now}
+use Rattle.vold_book.specs.Sweeping.{IsNextSite}
 use Rattle.vold_book.specs.Tasks.{Plans}
-use Rattle.vold_book.proofs.Planned.{planned-user, planned-recovery}
+use Rattle.vold_book.proofs.Planned.{planned-user}
+use Rattle.vold_book.proofs.PlannedRecovery.{recovery-settled, planned-recovery}
 use Rattle.vold_book.proofs.book.Book.planned.Goals as goal
 
-pub returns-in_ok-next-in-User-clause-plans : goal.returns-in_ok-next-in-User-clause-plans
-returns-in_ok-next-in-User-clause-plans g c =
-    subst (λ next. Plans (seen g.T.TreeDisk.disk g.T.TreeDisk.counts c.args.self.now) c.args.actor c.args.it next)
-    (sym c.as_user.ensures)
-    (subst (λ b. Plans (seen g.T.TreeDisk.disk g.T.TreeDisk.counts b) c.args.actor c.args.it
-    (as_user c.in_ok-next-in-User.field-0)) c.self.view_is
-    (planned-user _ c.self.invariant c.args.actor c.args.it
-    (subst (λ b. map.get b.docket.running c.args.actor ≡ Some c.args.it) (sym c.self.view_is) c.requires)
-    c.in-User.task c.site_in_the_way-site.result c.in_ok-next-in-User.field-0 c.in-User.is
-    (subst (λ user. IsNextSite (held place_cmp c.self.inside.places) user c.site_in_the_way-site.result) c.user.ensures
-    c.site_in_the_way-site.ensures)
-    (subst (λ seed. UserTurns seed c.in-User.task c.site_in_the_way-site.result c.in_ok-next-in-User.field-0)
-    c.as_slice.ensures c.in_ok-next-in-User.ensures.turn)))
+pub with_no_job-requires : goal.with_no_job-requires
+with_no_job-requires g c =
+    recovery-settled _ c.self.invariant c.args.actor c.in-Some.it.now c.in-Recovery.recovery c.is_dirty.result
+    (sym c.in-Some.ensures) c.in-Recovery.is c.is_dirty.ensures c.next-next.result c.next-next.ensures
+
+pub returns-in-User-clause-plans : goal.returns-in-User-clause-plans
+returns-in-User-clause-plans g c =
+    let eyes = senses g.T.TreeDisk.disk g.T.TreeDisk.counts g.K.Keystore.store g.K.Keystore.counts in
+    subst (λ book. IfOk c.planned_user.result (IsPlanned (seen eyes book) c.args.actor)) c.self.view_is
+    (IfOk-weaker c.planned_user.result _ _ (λ planned plans.
+    planned-user _ c.self.invariant c.args.actor c.in-Some.it.now c.in-User.task (sym c.in-Some.ensures) c.in-User.is
+    c.site_in_the_way-site.result planned
+    (subst (λ user. IsNextSite c.self.inside.bench.table.places user c.site_in_the_way-site.result) c.user.ensures
+    c.site_in_the_way-site.ensures) plans) c.planned_user.ensures)
+
+-- what a task does next without a job is what the Book plans
+plans-as-is : (book : Plain) (actor : Actor) (it : Running) (planned : Planned) (next : Next) → planned.task ≡ None
+    → next_of planned.plan ≡ next → Plans book actor it it.task next → IsPlanned book actor planned
+plans-as-is book actor it planned next none is plans = record {
+  it = it;
+  plans = subst (λ task. Plans book actor it (task_now task it.task) (next_of planned.plan)) (sym none)
+      (subst (λ then. Plans book actor it it.task then) (sym is) plans);
+}
 
 pub returns-in-Recovery-clause-plans : goal.returns-in-Recovery-clause-plans
 returns-in-Recovery-clause-plans g c =
-    subst (λ next. Plans (seen g.T.TreeDisk.disk g.T.TreeDisk.counts c.args.self.now) c.args.actor c.args.it next)
-    (sym c.as_recovery.ensures)
-    (subst (λ b. Plans (seen g.T.TreeDisk.disk g.T.TreeDisk.counts b) c.args.actor c.args.it
-    (as_recovery c.next-in-Recovery.result)) c.self.view_is
-    (planned-recovery _ c.self.invariant c.args.actor c.args.it
-    (subst (λ b. map.get b.docket.running c.args.actor ≡ Some c.args.it) (sym c.self.view_is) c.requires)
-    c.in-Recovery.recovery c.is_dirty-dirty.result c.next-in-Recovery.result c.in-Recovery.is c.is_dirty-dirty.ensures
-    c.next-in-Recovery.ensures))
+    let eyes = senses g.T.TreeDisk.disk g.T.TreeDisk.counts g.K.Keystore.store g.K.Keystore.counts in
+    subst (λ book. IsPlanned (seen eyes book) c.args.actor c.with_no_job.result) c.self.view_is
+    (plans-as-is _ c.args.actor c.in-Some.it.now c.with_no_job.result c.next-next.result c.with_no_job.ensures.task
+    c.with_no_job.ensures.plan
+    (planned-recovery _ c.self.invariant c.args.actor c.in-Some.it.now c.in-Recovery.recovery c.is_dirty.result
+    (sym c.in-Some.ensures) c.in-Recovery.is c.is_dirty.ensures c.next-next.result c.next-next.ensures))

@@ -1,57 +1,74 @@
-use Rattle.std.proofs.Common.{sym, subst, ◌≢◌, ◌<◌, ◌^◌, length}
+use Rattle.std.proofs.Common.{refl, sym, subst, ◌≢◌, ◌<◌, ◌^◌, length}
 use Rattle.journal_model.specs.declared.phase.Phase.TheVariants.{Halted}
-use Rattle.journal_model.specs.Actor.{actor_cmp}
-use Rattle.docket.specs.Docket.{docket_of}
-use Rattle.vold_book.specs.State.{BookState, book_of}
+use Rattle.bench.specs.Bench.{BenchState, Senses}
+use Rattle.vold_book.specs.State.{BookState, book_of, senses}
 use Rattle.vold_book.specs.Stops.{IsStopped}
-use Rattle.vold_book.proofs.Books.{stopped-book, stops-whole, changes-fit}
+use Rattle.vold_book.proofs.Machines.{stopped-book, stops-whole, changes-fit}
 use Rattle.vold_book.proofs.book.Book.stop.Given.{Over}
 use Rattle.vold_book.proofs.book.Book.stop.Goals as goal
 
+abbrev sense : (g : Over) → Senses g.row.T.Denot g.row.K.Denot
+sense g = senses g.T.TreeDisk.disk g.T.TreeDisk.counts g.K.Keystore.store g.K.Keystore.counts
+
 pub survivors-kept-requires : goal.survivors-kept-requires
 survivors-kept-requires g c =
-    changes-fit g.T.TreeDisk.disk g.T.TreeDisk.counts _ c.self.invariant
+    changes-fit (sense g) _ c.self.invariant
     (subst (λ l. length l.entries < 2 ^ 64) c.in_ok-reserve.ensures.same c.in_ok-reserve.ensures.few)
 
-abbrev before : (g : Over) (c : goal.After-order g) → BookState g.row.T.Denot
+abbrev before : (g : Over) (c : goal.After-order g) → BookState (BenchState g.row.T.Denot g.row.K.Denot)
 before g c = book_of (record {
-  tree = c.self.inside.tree;
+  tree = c.self.inside.bench.tree;
+  store = c.self.inside.bench.store;
+  places = c.self.inside.bench.table.places;
+  list = c.self.inside.bench.list;
   opened = c.self.inside.opened;
   seed = c.self.inside.seed;
+  boot_seed = c.self.inside.bench.seed;
   ledger = c.self.inside.ledger.now;
   docket = c.self.inside.docket;
   tracker = c.self.inside.tracker.now;
-  places = c.self.inside.places;
 })
 
-abbrev after : (g : Over) (c : goal.After-order g) → BookState g.row.T.Denot
+abbrev after : (g : Over) (c : goal.After-order g) → BookState (BenchState g.row.T.Denot g.row.K.Denot)
 after g c = book_of (record {
   tree = c.stop.new.self;
+  store = c.self.inside.bench.store;
+  places = c.self.inside.bench.table.places;
+  list = c.clear.new.self;
   opened = c.self.inside.opened;
   seed = c.self.inside.seed;
+  boot_seed = c.self.inside.bench.seed;
   ledger = c.order.new.self.now;
   docket = c.stop-2.new.self;
   tracker = c.stop-3.new.self.now;
-  places = c.self.inside.places;
 })
 
-stopped : (g : Over) (c : goal.After-order g)
-    → IsStopped g.T.TreeDisk.disk g.T.TreeDisk.counts (before g c) (after g c) c.args.cut
+stopped : (g : Over) (c : goal.After-order g) → IsStopped (sense g) (before g c) (after g c) c.args.cut
 stopped g c =
-    stopped-book g.T.TreeDisk.disk g.T.TreeDisk.counts (before g c) c.self.invariant c.stop.new.self c.args.cut
-    c.survivors-kept.result c.reserve.new.self.now c.order.new.self.now c.in_ok-duplicate.field-0
-    (docket_of actor_cmp c.stop-2.new.self) c.stop-3.new.self.now c.stop.ensures.stopped c.stop.ensures.counts
-    c.survivors-kept.ensures c.in_ok-reserve.ensures.same c.in_ok-duplicate.ensures c.order.ensures
-    c.stop-2.ensures c.stop-3.ensures
+    stopped-book (sense g) (before g c) c.self.invariant (after g c) c.args.cut (record {
+      kept = c.survivors-kept.result;
+      copied = c.in_ok-duplicate.field-0;
+      reserved = c.reserve.new.self.now;
+      left = c.stop.ensures.stopped;
+      counts = c.stop.ensures.counts;
+      list = c.clear.ensures;
+      is_kept = c.survivors-kept.ensures;
+      is_copied = c.in_ok-duplicate.ensures;
+      is_reserved = c.in_ok-reserve.ensures.same;
+      entered = c.order.ensures;
+      ended = c.stop-2.ensures;
+      halted = c.stop-3.ensures;
+      rest = refl;
+    })
 
 pub invariant_of-self-2 : goal.invariant_of-self-2
 invariant_of-self-2 g c =
-    stops-whole g.T.TreeDisk.disk g.T.TreeDisk.counts (before g c) c.self.invariant (after g c) c.args.cut
+    stops-whole (sense g) (before g c) c.self.invariant (after g c) c.args.cut
     (subst (λ b. b.tracker.phase ≢ Halted) (sym c.self.view_is) c.requires) (stopped g c)
 
 pub returns-clause-stopped : goal.returns-clause-stopped
 returns-clause-stopped g c =
-    subst (λ b. IsStopped g.T.TreeDisk.disk g.T.TreeDisk.counts b (after g c) c.args.cut) c.self.view_is (stopped g c)
+    subst (λ b. IsStopped (sense g) b (after g c) c.args.cut) c.self.view_is (stopped g c)
 
 pub returns-clause-whole : goal.returns-clause-whole
 returns-clause-whole g c = invariant_of-self-2 g c

@@ -1,0 +1,450 @@
+-- While a store task of a command works, each of its turns but the one that puts the directory in place shows what the
+-- command has to.
+use Rattle.std.proofs.Common.{◌≡◌, ◌≢◌, ℕ, ◌+◌, ◌<◌, ◌≤◌, List, [], ◌∷◌, ◌++◌, refl, sym, ap, ◌∙◌}
+use Rattle.std.proofs.Common.{subst, arith, append_assoc, inl, inr}
+use Rattle.std.specs.Prelude.{Option, Some, None, Contains}
+use Rattle.std.proofs.lemmas.List.{append-nil}
+use Rattle.std.proofs.lemmas.List.Elements.{Contains-append_left, Contains-append_right}
+use Rattle.std.proofs.lemmas.Option.{none-some}
+use Rattle.tree_model.specs.declared.blobs.Blob.{Blob}
+use Rattle.tree_model.specs.declared.sites.LocalOp.{LocalOp}
+use Rattle.keystore_model.specs.declared.entry.Tag.{Tag}
+use Rattle.keystore_model.specs.Store.{entry_of}
+use Rattle.keystore_model.proofs.Stores.{entry-push_other}
+use Rattle.step_core.specs.declared.jobs.Job.{Job}
+use Rattle.step_core.specs.declared.jobs.JobOutput.{JobOutput}
+use Rattle.step_core.specs.declared.jobs.JobOutput.TheVariants.{AppId as IsAppId, Sealed as IsSealed, Opened}
+use Rattle.step_core.specs.Jobs.{output_of}
+use Rattle.user_world.specs.declared.changes.LocalChange.{LocalChange}
+use Rattle.user_world.specs.OwnWorlds.{own_view}
+use Rattle.user_world.specs.Facts.{Holds}
+use Rattle.user_world.specs.Turns.{with_note}
+use Rattle.user_world.proofs.Facts.{always-settled}
+use Rattle.key_directory.specs.Vaults.{sealed}
+use Rattle.task_turns.specs.declared.calls.Answer.{Answer}
+use Rattle.task_turns.specs.declared.calls.Answer.TheVariants.{Done, Blob as IsBlob, Sealed, Output}
+use Rattle.task_turns.specs.declared.calls.Call.TheVariants.{Op as OpCall, Sync as SyncCall}
+use Rattle.task_turns.specs.Shares.{Share, ShareFact, AllHas, LaterShare, IsHeld, AreHeld}
+use Rattle.task_turns.specs.Shares.{Own, KeyFor, SealedFor, Same, Given}
+use Rattle.task_turns.specs.Turns.{Rest, Tasks, Scene, Cost, no_cost, operated, synced, with_entry, Leads}
+use Rattle.task_turns.specs.Turns.{CallShows, GenerateShows, EncryptShows, WorkShows, TurnShows}
+use Rattle.task_turns.proofs.Lasting.{facts-last}
+use Rattle.store_task.specs.declared.stages.Stage.{Stage}
+use Rattle.store_task.specs.declared.stages.Stage.TheVariants.{First, Tied, Generated, Storing}
+use Rattle.store_task.specs.declared.stages.Progress.{Progress}
+use Rattle.store_task.specs.declared.stages.Progress.TheVariants.{Absent, Settled, Stored}
+use Rattle.store_task.specs.declared.turns.Doing.{Doing}
+use Rattle.store_task.specs.declared.turns.Doing.TheVariants.{Work, Generate, Encrypt, Tree, Sync as SyncDoing}
+use Rattle.store_task.specs.Task.{Task, IsAnswer, AnswersStage, stage_after, after as store_after, facts_of}
+use Rattle.store_task.specs.Task.{held_at, held_of, left_of, makes_in, makes_of, draws_at, draws_of, progress_of}
+use Rattle.store_task.specs.Task.{temp_at, temp_of}
+use Rattle.store_task.specs.Turns.{Leads as StoreLeads, WorkShows as StoreWork, GenerateShows as StoreGenerate}
+use Rattle.store_task.specs.Turns.{EncryptShows as StoreEncrypt, TreeShows, SyncShows as StoreSync, StaysAside}
+use Rattle.store_task.specs.Turns.{PutsInPlace, DoingShows}
+use Rattle.store_task.proofs.HeldBlobs.{blobs-held}
+use Rattle.store_task.proofs.Places.{temp-written}
+use Rattle.user_tasks.specs.Stores.{Frame, rest_in, part, whole_at, op_turn, turn_of}
+use Rattle.user_tasks.proofs.AsideOps.{aside-brings, aside-turn, aside-step, aside-gains, aside-part, lets-none}
+use Rattle.user_tasks.proofs.Whole.{whole-view, whole-here, whole-always, part-temp}
+
+-- facts of two lists
+has-both : (facts more : List ShareFact) (share : Share) → AllHas facts share → AllHas more share
+    → AllHas (facts ++ more) share
+has-both [] more share has also = also
+has-both (fact ∷ facts) more share has also = (has.0, has-both facts more share has.1 also)
+
+has-first : (facts more : List ShareFact) (share : Share) → AllHas (facts ++ more) share → AllHas facts share
+has-first [] more share has = tt
+has-first (fact ∷ facts) more share has = (has.0, has-first facts more share has.1)
+
+has-rest : (facts more : List ShareFact) (share : Share) → AllHas (facts ++ more) share → AllHas more share
+has-rest [] more share has = has
+has-rest (fact ∷ facts) more share has = has-rest facts more share has.1
+
+-- the blobs of facts are held among more blobs
+held-fact : (held more : List Blob) → ((blob : Blob) → Contains held blob → Contains more blob)
+    → (fact : ShareFact) → IsHeld held fact → IsHeld more fact
+held-fact held more among (Own fact) is = tt
+held-fact held more among (KeyFor blob app_id tag) is = among blob is
+held-fact held more among (SealedFor blob app_id tag nonce key text) is = among blob is
+held-fact held more among (Same a b) is = tt
+held-fact held more among (Given key class user birth) is = tt
+
+held-more : (held more : List Blob) → ((blob : Blob) → Contains held blob → Contains more blob)
+    → (facts : List ShareFact) → AreHeld held facts → AreHeld more facts
+held-more held more among [] are = tt
+held-more held more among (fact ∷ facts) are =
+    (held-fact held more among fact are.0, held-more held more among facts are.1)
+
+held-both : (held : List Blob) (facts more : List ShareFact) → AreHeld held facts → AreHeld held more
+    → AreHeld held (facts ++ more)
+held-both held [] more are also = also
+held-both held (fact ∷ facts) more are also = (are.0, held-both held facts more are.1 also)
+
+-- an answer before the directory is begun: the blobs that are held then, and the entries that it made
+record Prepares (discard : List ℕ) (stage then : Stage) (gains : List Blob) (draws : ℕ) : Type 0 where
+  absent : progress_of stage ≡ Absent
+  nothing : temp_at discard stage ≡ None
+  then_absent : progress_of then ≡ Absent
+  then_nothing : temp_at discard then ≡ None
+  held : held_at then ≡ held_at stage ++ gains
+  spent : draws_at then + draws ≤ draws_at stage
+
+module _ (discard secret : List ℕ) where
+  after-output : (stage : Stage) (output : JobOutput) → AnswersStage secret stage (Output output)
+      → Prepares discard stage (stage_after stage (Output output)) [] 0
+  after-output First (IsAppId app_id) answers = record {
+    absent = refl;
+    nothing = refl;
+    then_absent = refl;
+    then_nothing = refl;
+    held = refl;
+    spent = omega arith;
+  }
+  after-output First (IsSealed text) answers = record {
+    absent = refl;
+    nothing = refl;
+    then_absent = refl;
+    then_nothing = refl;
+    held = refl;
+    spent = omega arith;
+  }
+  after-output First (Opened key) answers = absurd answers
+  after-output (Tied app_id) output answers = absurd answers
+  after-output (Generated app_id blob) output answers = absurd answers
+  after-output (Storing blob text progress) output answers = absurd answers
+
+  after-blob : (stage : Stage) (blob : Blob) → AnswersStage secret stage (IsBlob blob)
+      → Prepares discard stage (stage_after stage (IsBlob blob)) (blob ∷ []) 1
+  after-blob First blob answers = absurd answers
+  after-blob (Tied app_id) blob answers = record {
+    absent = refl;
+    nothing = refl;
+    then_absent = refl;
+    then_nothing = refl;
+    held = refl;
+    spent = omega arith;
+  }
+  after-blob (Generated app_id other) blob answers = absurd answers
+  after-blob (Storing other text progress) blob answers = absurd answers
+
+  after-sealed : (stage : Stage) (text : List ℕ) → AnswersStage secret stage (Sealed text)
+      → Prepares discard stage (stage_after stage (Sealed text)) [] 0
+  after-sealed First text answers = absurd answers
+  after-sealed (Tied app_id) text answers = absurd answers
+  after-sealed (Generated app_id blob) text answers = record {
+    absent = refl;
+    nothing = refl;
+    then_absent = refl;
+    then_nothing = refl;
+    held = refl;
+    spent = omega arith;
+  }
+  after-sealed (Storing blob other progress) text answers = absurd answers
+
+  -- an operation or a sync makes no entry
+  done-held : (stage : Stage) → AnswersStage secret stage Done → held_at (stage_after stage Done) ≡ held_at stage
+  done-held First answers = absurd answers
+  done-held (Tied app_id) answers = absurd answers
+  done-held (Generated app_id blob) answers = absurd answers
+  done-held (Storing blob text progress) answers = refl
+
+  done-draws : (stage : Stage) → AnswersStage secret stage Done → draws_at (stage_after stage Done) ≡ draws_at stage
+  done-draws First answers = absurd answers
+  done-draws (Tied app_id) answers = absurd answers
+  done-draws (Generated app_id blob) answers = absurd answers
+  done-draws (Storing blob text progress) answers = refl
+
+-- the progress is another one where it is known
+absent-unsettled : (progress : Progress) → progress ≡ Absent → progress ≢ Settled
+absent-unsettled progress is e = let same : Absent ≡ Settled = sym is ∙ e in cc
+
+absent-goes_on : (progress : Progress) → progress ≡ Absent → progress ≢ Stored
+absent-goes_on progress is e = let same : Absent ≡ Stored = sym is ∙ e in cc
+
+settled-goes_on : (progress : Progress) → progress ≡ Settled → progress ≢ Stored
+settled-goes_on progress is e = let same : Settled ≡ Stored = sym is ∙ e in cc
+
+-- a sync and a further entry leave a share that is later
+later-synced : (held : List Blob) (share : Share) → LaterShare held share (synced share)
+later-synced held share =
+    record { own = inr refl; level = refl; seed = refl; kept = λ blob has entry live. live }
+
+later-entered : (held : List Blob) (share : Share) (blob : Blob) (tag : Tag) (app_id key : List ℕ)
+    → entry_of share.vault.entries blob ≡ None → LaterShare held share (with_entry share blob tag app_id key)
+later-entered held share blob tag app_id key none = record {
+  own = inl refl;
+  level = refl;
+  seed = refl;
+  kept = λ other has entry live. entry-push_other share.vault.entries _ other
+      (λ same. none-some entry (sym none ∙ subst (λ b. entry_of share.vault.entries b ≡ Some entry) same live)) ∙ live;
+}
+
+-- what one turn leads to, by where the task rests before it and after it
+pub record LeadsTo (scene : Scene) (rest then : Rest) (note : Option LocalChange) (cost : Cost) (share : Share) :
+    Type 0 where
+  pub facts : AllHas then.facts share
+  pub known : AreHeld then.held then.facts
+  pub serves : then.serves scene.boot (with_note rest.user scene.began note)
+  pub same_user : then.user ≡ rest.user
+  pub falls : then.left + cost.makes < rest.left + cost.takes
+  pub makes : then.makes + cost.makes ≤ rest.makes
+  pub draws : then.draws + cost.draws ≤ rest.draws
+
+pub leads-to : {T : Type 0} (tasks : Tasks T) (task : T) (answer : Answer) {scene : Scene} {rest then : Rest}
+    {note : Option LocalChange} {cost : Cost} {share : Share} → tasks.hears task answer
+    → tasks.rest_of task ≡ rest → tasks.rest_of (tasks.after task answer) ≡ then
+    → LeadsTo scene rest then note cost share
+    → Leads tasks task answer scene note cost share
+leads-to tasks task answer {scene} {rest} {then} {note} {cost} {share} hears is next to =
+    let led = subst (λ r. LeadsTo scene r (tasks.rest_of (tasks.after task answer)) note cost share) (sym is)
+    (subst (λ r. LeadsTo scene rest r note cost share) (sym next) to) in record {
+      hears = hears;
+      facts = led.facts;
+      known = led.known;
+      serves = led.serves;
+      same_user = led.same_user;
+      falls = led.falls;
+      makes = led.makes;
+      draws = led.draws;
+    }
+
+-- the task rests where the frame says, and so after each answer to its store task that puts no directory in place
+pub record IsFramed {T : Type 0} (tasks : Tasks T) (task : T) (frame : Frame) (store : Task) : Type 1 where
+  pub rests : tasks.rest_of task ≡ rest_in frame store
+  pub hears : (answer : Answer) → IsAnswer store answer → tasks.hears task answer
+  pub goes_on : (answer : Answer) → IsAnswer store answer → progress_of (store_after store answer).stage ≢ Stored
+      → tasks.rest_of (tasks.after task answer) ≡ rest_in frame (store_after store answer)
+  pub owner : store.spec.tag.user ≡ frame.user
+  -- what it else rests on lasts: it holds the blobs of that, and the store task's operations don't touch it
+  pub base_held : AreHeld frame.before frame.base
+  pub base_stays : (share : Share) (op : LocalOp) → AllHas frame.base share
+      → AllHas frame.base (operated share op None)
+  -- the store task's turns are not its last
+  pub behind : 0 < frame.turns
+
+module _ {T : Type 0} (tasks : Tasks T) (task : T) (frame : Frame) (store : Task)
+    (framed : IsFramed tasks task frame store) (scene : Scene)
+    (has : AllHas (rest_in frame store).facts scene.share) (serves : frame.serves scene.boot scene.began) where
+  base-has : AllHas frame.base scene.share
+  base-has = has-first frame.base _ scene.share has
+
+  base-later : (share : Share) → LaterShare frame.before scene.share share → AllHas frame.base share
+  base-later share later = facts-last frame.base frame.before scene.share share later framed.base_held base-has
+
+  pub store-has : AllHas (facts_of store) scene.share
+  store-has = (has-rest frame.base _ scene.share has).1
+
+  pub view-is : own_view scene.share.own ≡ part frame.current (temp_of store)
+  view-is = whole-view scene.share.own _ (progress_of store.stage) (has-rest frame.base _ scene.share has).0
+
+  known-in : (then : Task) → AreHeld (rest_in frame then).held (rest_in frame then).facts
+  known-in then = held-both (frame.before ++ held_of then) frame.base _
+      (held-more frame.before _ (λ blob is. Contains-append_left frame.before (held_of then) blob is) frame.base
+      framed.base_held) (
+        tt,
+        held-more (held_of then) _ (λ blob is. Contains-append_right frame.before (held_of then) blob is)
+            (facts_of then) (blobs-held then),
+      )
+
+  -- the store task goes on, and what else the command rests on holds still
+  record GoesOn (answer : Answer) (cost : Cost) (share : Share) : Type 0 where
+    leads : StoreLeads store answer share
+    on : progress_of (store_after store answer).stage ≢ Stored
+    base : AllHas frame.base share
+    whole : Holds (whole_at (progress_of (store_after store answer).stage)
+        (part frame.current (temp_of (store_after store answer)))) share.own
+    makes : makes_of (store_after store answer) + cost.makes ≤ makes_of store
+    draws : draws_of (store_after store answer) + cost.draws ≤ draws_of store
+
+  goes-leads : (answer : Answer) (cost : Cost) (share : Share) → GoesOn answer cost share
+      → Leads tasks task answer scene None cost share
+  goes-leads answer cost share goes =
+      leads-to tasks task answer (framed.hears answer goes.leads.answers) framed.rests
+      (framed.goes_on answer goes.leads.answers goes.on)
+      (record {
+        facts = has-both frame.base _ share goes.base (goes.whole, goes.leads.facts);
+        known = known-in (store_after store answer);
+        serves = serves;
+        same_user = refl;
+        falls = omega (arith, goes.leads.falls, goes.makes);
+        makes = omega (arith, goes.makes);
+        draws = omega (arith, goes.draws);
+      })
+
+  -- what it holds then
+  held-then : (answer : Answer) (gains : List Blob) → IsAnswer store answer
+      → progress_of (store_after store answer).stage ≢ Stored
+      → held_of (store_after store answer) ≡ held_of store ++ gains
+      → (tasks.rest_of (tasks.after task answer)).held ≡ (tasks.rest_of task).held ++ gains
+  held-then answer gains answers on held =
+      ap (λ (rest : Rest). rest.held) (framed.goes_on answer answers on)
+      ∙ ap (λ blobs. frame.before ++ blobs) held ∙ sym (append_assoc frame.before (held_of store) gains)
+      ∙ ap (λ (rest : Rest). rest.held ++ gains) (sym framed.rests)
+
+  held-still : (answer : Answer) → IsAnswer store answer → progress_of (store_after store answer).stage ≢ Stored
+      → held_of (store_after store answer) ≡ held_of store
+      → (tasks.rest_of (tasks.after task answer)).held ≡ (tasks.rest_of task).held
+  held-still answer answers on held =
+      held-then answer [] answers on (held ∙ sym (append-nil (held_of store))) ∙ append-nil (tasks.rest_of task).held
+
+  lasts : left_of store ≢ 0 → 1 < (tasks.rest_of task).left
+  lasts unended = subst (λ (rest : Rest). 1 < rest.left) (sym framed.rests) (omega (arith, unended, framed.behind))
+
+  -- before the directory is begun
+  module _ (answer : Answer) (gains : List Blob) (draws : ℕ)
+      (prepares : Prepares store.spec.discard store.stage (store_after store answer).stage gains draws) where
+    prepared-on : progress_of (store_after store answer).stage ≢ Stored
+    prepared-on = absent-goes_on _ prepares.then_absent
+
+    prepared-whole : Holds (whole_at (progress_of (store_after store answer).stage)
+        (part frame.current (temp_of (store_after store answer)))) scene.share.own
+    prepared-whole = whole-here scene.share.own _ _ (absent-unsettled _ prepares.then_absent)
+        (view-is ∙ ap (part frame.current) (prepares.nothing ∙ sym prepares.then_nothing))
+
+    prepared-makes : makes_of (store_after store answer) + 0 ≤ makes_of store
+    prepared-makes =
+        let same : makes_of (store_after store answer) ≡ makes_of store =
+        ap makes_in (prepares.then_absent ∙ sym prepares.absent) in omega (arith, same)
+
+  work-shows : (job : Job) → StoreWork store scene.share job → WorkShows tasks task scene job
+  work-shows job shows =
+      let answer = Output (output_of job.input) in
+      let prepares = after-output store.spec.discard store.spec.secret store.stage (output_of job.input)
+      shows.leads.answers in record {
+        held = held-then answer [] shows.leads.answers (prepared-on answer [] 0 prepares) prepares.held
+            ∙ append-nil (tasks.rest_of task).held;
+        leads = goes-leads answer no_cost scene.share (record {
+          leads = shows.leads;
+          on = prepared-on answer [] 0 prepares;
+          base = base-has;
+          whole = prepared-whole answer [] 0 prepares;
+          makes = prepared-makes answer [] 0 prepares;
+          draws = prepares.spent;
+        });
+      }
+
+  generate-shows : (tag : Tag) (app_id : List ℕ) → StoreGenerate store scene.share tag app_id
+      → GenerateShows tasks task scene tag app_id None
+  generate-shows tag app_id shows = record {
+    quiet = refl;
+    tagged = ap (λ (t : Tag). t.user) shows.tagged ∙ framed.owner ∙ ap (λ (rest : Rest). rest.user) (sym framed.rests);
+    each = λ blob key long none.
+        let leads = shows.leads blob key long none in
+        let prepares = after-blob store.spec.discard store.spec.secret store.stage blob leads.answers in
+        let on = prepared-on (IsBlob blob) (blob ∷ []) 1 prepares in record {
+          held = held-then (IsBlob blob) (blob ∷ []) leads.answers on prepares.held;
+          leads = goes-leads (IsBlob blob) _ (with_entry scene.share blob tag app_id key) (record {
+            leads = leads;
+            on = on;
+            base = base-later _ (later-entered frame.before scene.share blob tag app_id key none);
+            whole = prepared-whole (IsBlob blob) (blob ∷ []) 1 prepares;
+            makes = prepared-makes (IsBlob blob) (blob ∷ []) 1 prepares;
+            draws = prepares.spent;
+          });
+        };
+  }
+
+  encrypt-shows : (blob : Blob) (app_id nonce key : List ℕ) → StoreEncrypt store scene.share blob app_id nonce key
+      → EncryptShows tasks task scene blob app_id nonce key
+  encrypt-shows blob app_id nonce key shows =
+      let answers = shows.leads.answers in
+      let prepares = after-sealed store.spec.discard store.spec.secret store.stage _ answers in
+      let on = prepared-on (Sealed _) [] 0 prepares in record {
+        under = record {
+          entry = shows.entry;
+          live = shows.live;
+          bound = shows.bound;
+          current = shows.current;
+        };
+        held = held-then (Sealed _) [] answers on prepares.held ∙ append-nil (tasks.rest_of task).held;
+        leads = goes-leads (Sealed _) no_cost scene.share (record {
+          leads = shows.leads;
+          on = on;
+          base = base-has;
+          whole = prepared-whole (Sealed _) [] 0 prepares;
+          makes = prepared-makes (Sealed _) [] 0 prepares;
+          draws = prepares.spent;
+        });
+      }
+
+  aside-shows : left_of store ≢ 0 → (op : LocalOp) → TreeShows store scene.share op → StaysAside store op
+      → CallShows tasks task scene (OpCall frame.user op None) None
+  aside-shows unended op shows aside =
+      let leads = shows.leads None in
+      let same = done-held store.spec.discard store.spec.secret store.stage leads.answers in record {
+        stands = record {
+          mine = ap (λ (rest : Rest). rest.user) (sym framed.rests);
+          step = aside-step (sealed scene.share.vault) (tasks.rest_of task).user scene.share.own op aside.apart
+              shows.fits;
+          brings = record { brings = aside-brings (own_view scene.share.own) op aside.apart shows.fits; long = tt };
+          gains = [];
+          gained = aside-gains scene.share.own op aside.apart;
+          lets_go = lets-none _ _ (held-still Done leads.answers aside.goes_on same);
+          held = inl (held-still Done leads.answers aside.goes_on same);
+          leads = goes-leads Done _ (operated scene.share op None) (record {
+            leads = leads;
+            on = aside.goes_on;
+            base = framed.base_stays scene.share op base-has;
+            whole = whole-here _ _ _ aside.unsynced
+                (aside-part scene.share.own op frame.current (temp_of store) _ aside.apart view-is
+                (temp-written (operated scene.share op None) (store_after store Done) leads.facts));
+            makes = shows.makes;
+            draws = let kept : draws_of (store_after store Done) ≡ draws_of store =
+                done-draws store.spec.discard store.spec.secret store.stage leads.answers in omega (arith, kept);
+          });
+        };
+        may = tt;
+        lasts = lasts unended;
+      }
+
+  sync-shows : left_of store ≢ 0 → StoreSync store scene.share → CallShows tasks task scene SyncCall None
+  sync-shows unended shows =
+      let leads = shows.leads in
+      let on = settled-goes_on _ shows.settles in
+      let same = done-held store.spec.discard store.spec.secret store.stage leads.answers in record {
+        stands = record {
+          quiet = refl;
+          held = held-still Done leads.answers on same;
+          leads = goes-leads Done no_cost (synced scene.share) (record {
+            leads = leads;
+            on = on;
+            base = base-later _ (later-synced frame.before scene.share);
+            whole = whole-always _ _ _ shows.settles
+                (always-settled scene.share.own _
+                (part-temp (own_view scene.share.own) frame.current (temp_of store) _ view-is
+                (temp-written (synced scene.share) (store_after store Done) leads.facts)));
+            makes = let none : makes_of (store_after store Done) ≡ 0 = ap makes_in shows.settles in
+                omega (arith, none);
+            draws = let kept : draws_of (store_after store Done) ≡ draws_of store =
+                done-draws store.spec.discard store.spec.secret store.stage leads.answers in omega (arith, kept);
+          });
+        };
+        may = tt;
+        lasts = lasts unended;
+      }
+
+  -- each turn, but for what puts the directory in place
+  pub framed-shows : (doing : Doing) (named : Option Blob) (change : Option LocalChange) → left_of store ≢ 0
+      → DoingShows store scene.share doing
+      → ((op : LocalOp) → TreeShows store scene.share op → PutsInPlace store op
+      → TurnShows tasks task scene (op_turn frame.user op named change))
+      → TurnShows tasks task scene (turn_of frame.user doing named change)
+  framed-shows (Work job) named change unended shows placed = work-shows job shows
+  framed-shows (Generate tag app_id) named change unended shows placed = record {
+    stands = generate-shows tag app_id shows;
+    may = tt;
+    lasts = lasts unended;
+  }
+  framed-shows (Encrypt blob app_id nonce key) named change unended shows placed = record {
+    stands = (refl, encrypt-shows blob app_id nonce key shows);
+    may = tt;
+    lasts = lasts unended;
+  }
+  framed-shows (Tree op) named change unended shows placed = elim shows.owned [
+    | inl aside ↦ subst (TurnShows tasks task scene)
+        (sym (aside-turn (own_view scene.share.own) frame.user op named change aside.apart shows.fits))
+        (aside-shows unended op shows aside)
+    | inr puts ↦ placed op shows puts
+  ]
+  framed-shows SyncDoing named change unended shows placed = sync-shows unended shows

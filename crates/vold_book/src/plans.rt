@@ -1,0 +1,76 @@
+//! What an actor's command does next, once a job that it asked for is done.
+ghost use Rattle.std.specs.Prelude.{◌≡◌, IfOk};
+ghost use Rattle.vold_book.specs.Plans.{IsSettledNext, PlansUser, next_of};
+
+use journal_model::Reply;
+use key_seal::perform;
+use std::alloc::Global;
+use task_turns::{Answer, Call, Next};
+use tree_model::{NoMemory, Site};
+use user_tasks::UserTask;
+use user_world::LocalChange;
+
+/// What a command does next, but for a job.
+#[derive(Drop)]
+pub enum Plan {
+    /// A call, with the change that it makes.
+    Call {
+        call: Call,
+        change: Option<LocalChange>,
+    },
+    /// Its reply.
+    Reply(Reply),
+}
+
+/// What a command does next.
+#[derive(Drop)]
+pub struct Planned {
+    /// The user's task with its job done, where it asked for one.
+    pub task: Option<UserTask>,
+    pub plan: Plan,
+}
+
+/// What a user's task does next, where this is the first of the user's sites that is in the way; its job is done.
+pub fn planned_user(alloc: Global, task: &UserTask, site: Option<Site>) -> Result<Planned, NoMemory>
+    ensures { IfOk result (PlansUser task.now site) }
+{
+    match task.next(alloc, site)? {
+        Next::Work(job) => {
+            let Ok(done) = perform(alloc, job) else {
+                return Err(NoMemory);
+            };
+            let mut task = task.duplicate(alloc)?;
+            task.heard(Answer::Output(done.into_output()));
+            let plan = plan_of(task.next(alloc, site)?);
+            Ok(Planned {
+                task: Some(task),
+                plan,
+            })
+        }
+        next => Ok(with_no_job(next)),
+    }
+}
+
+/// What is planned with no job.
+pub fn with_no_job(next: Next) -> Planned
+    requires { IsSettledNext next }
+    ensures plan { next_of result.plan ≡ next }
+    ensures task { result.task ≡ None }
+{
+    Planned {
+        task: None,
+        plan: plan_of(next),
+    }
+}
+
+/// A plan that asks for no job.
+fn plan_of(next: Next) -> Plan
+    requires { IsSettledNext next }
+    ensures { next_of result ≡ next }
+{
+    match next {
+        Next::Call { call, change } => Plan::Call { call, change },
+        Next::Reply(reply) => Plan::Reply(reply),
+        Next::Work(_) => unreachable!(),
+    }
+}
