@@ -3,6 +3,5 @@ pub mod Births
 pub mod Lasting
 pub mod Opening
 pub mod Present
-pub mod Standing
 pub mod Storing
 pub mod Tested

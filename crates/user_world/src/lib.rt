@@ -5,7 +5,5 @@
 
 pub mod changes;
 pub mod laws;
-pub mod turns;
 
 pub use changes::LocalChange;
-pub use turns::{Call, Next};
