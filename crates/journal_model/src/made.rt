@@ -1,9 +1,8 @@
 ghost use Rattle.std.specs.Prelude.{◌≡◌, ℕ, ◌+◌, ◌*◌, ◌≤◌, length, IfOk};
-ghost use Rattle.journal_model.specs.Made.{boot_seed_of, stream_number, generator_at, stream_bytes, key_place};
-ghost use Rattle.journal_model.specs.Made.{nonce_place, discardable_place, key_of, nonce_of, discardable_of};
+ghost use Rattle.journal_model.specs.Made.{boot_seed_of, stream_number, stream_bytes};
+ghost use Rattle.journal_model.specs.Made.{key_place, nonce_place, discardable_place};
 ghost use Rattle.journal_model.specs.MadeLaws.{StreamsAreApart, WordsServeOnce, MadeLengths};
 
-use crate::entries::Birth;
 use crate::hashes::{after_prefix, half};
 use rand_chacha::ChaCha20Rng;
 use rand_core::{Rng, SeedableRng};
@@ -47,52 +46,37 @@ pub fn made_bytes(
     Ok(Bytes::from_vec(bytes))
 }
 
-/// The key of this class that a user of this birth is given. It takes no memory.
-pub fn made_key(seed: &[u8], class: Class, user: u32, birth: Birth) -> [u8; 64]
-    ensures { result ≡ key_of seed.now class user birth }
+/// The key of this class that the create at this index makes. It takes no memory.
+pub fn made_key(boot_seed: &[u8; 32], class: Class, user: u32, index: u32) -> [u8; 64]
+    ensures { result ≡ stream_bytes boot_seed.now (stream_number user index) (key_place class) 16 }
 {
-    let boot_seed = boot_seed(seed, birth.boot);
     let mut key = [0; 64];
-    fill(&boot_seed, user, birth.index, key_place(class), &mut key);
+    fill(boot_seed, user, index, key_place(class), &mut key);
     key
 }
 
 /// The nonce that seals the directory of this class's key. It takes no memory.
-pub fn made_nonce(seed: &[u8], class: Class, user: u32, birth: Birth) -> [u8; 12]
-    ensures { result ≡ nonce_of seed.now class user birth }
+pub fn made_nonce(boot_seed: &[u8; 32], class: Class, user: u32, index: u32) -> [u8; 12]
+    ensures { result ≡ stream_bytes boot_seed.now (stream_number user index) (nonce_place class) 3 }
 {
-    let boot_seed = boot_seed(seed, birth.boot);
     let mut nonce = [0; 12];
-    fill(
-        &boot_seed,
-        user,
-        birth.index,
-        nonce_place(class),
-        &mut nonce,
-    );
+    fill(boot_seed, user, index, nonce_place(class), &mut nonce);
     nonce
 }
 
 /// The discardable file in the directory of this class's key, of 16384 bytes.
 pub fn made_discardable(
     alloc: Global,
-    seed: &[u8],
+    boot_seed: &[u8; 32],
     class: Class,
     user: u32,
-    birth: Birth,
+    index: u32,
 ) -> Result<Bytes, NoMemory>
-    ensures { IfOk result (λ made. made ≡ discardable_of seed.now class user birth) }
+    ensures { IfOk result (λ made.
+        made ≡ stream_bytes boot_seed.now (stream_number user index) (discardable_place class) 4096) }
 {
-    let boot_seed = boot_seed(seed, birth.boot);
     let place = discardable_place(class);
-    made_bytes(
-        alloc,
-        &boot_seed,
-        user,
-        birth.index,
-        place,
-        DISCARDABLE_WORDS,
-    )
+    made_bytes(alloc, boot_seed, user, index, place, DISCARDABLE_WORDS)
 }
 
 /// Fills the bytes with words of the stream of a user's command, from the word at `place` on.

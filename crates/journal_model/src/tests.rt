@@ -1,8 +1,8 @@
 // Vectors of another program: hashes behind each prefix, what they derive, and made bytes of several streams.
 
 use crate::{
-    Birth, Secret, app_id, boot_seed, made_bytes, made_discardable, made_key, made_nonce,
-    prefixed_hash, wrap_key,
+    Secret, app_id, boot_seed, made_bytes, made_discardable, made_key, made_nonce, prefixed_hash,
+    wrap_key,
 };
 use hex::FromHex;
 use std::test::Fail;
@@ -426,13 +426,13 @@ const PIECES: [(Class, u32, u32, &str, &str, &str); 6] = [
 
 #[test]
 fn pieces_of_streams(rt: HostRuntime) -> Result<(), Fail> {
+    let seed = boot_seed(&[], 0);
     for (class, user, index, key, nonce, begins) in PIECES {
-        let birth = Birth { boot: 0, index };
-        let made = made_key(&[], class, user, birth);
+        let made = made_key(&seed, class, user, index);
         assert_eq!(rt; made, <[u8; 64]>::from_hex(key)?, "user {user}");
-        let made = made_nonce(&[], class, user, birth);
+        let made = made_nonce(&seed, class, user, index);
         assert_eq!(rt; made, <[u8; 12]>::from_hex(nonce)?, "user {user}");
-        let made = made_discardable(rt.alloc(), &[], class, user, birth)?;
+        let made = made_discardable(rt.alloc(), &seed, class, user, index)?;
         assert_eq!(rt; made.as_slice().len(), 16384);
         assert!(rt;
             made.as_slice().starts_with(&<[u8; 32]>::from_hex(begins)?),
