@@ -60,6 +60,11 @@ record EditsAt (Which : Place → Type 0) (places places' : NamedPlaces) (tree t
   there : is_some (map.get places' place) ≡ is_some (map.get tree' place)
   names : Which place → map.get places' place ≡ named_in (map.get tree' place)
 
+-- what a directory that is there names is what is named in it
+pub names-there : (held : Option Files) → is_some held ≡ true → Some (named_by (named_in held)) ≡ named_in held
+names-there None none = cc
+names-there (Some files) some = refl
+
 -- where none of these places is a temporary one
 module _ (Which : Place → Type 0) (never : (user : ℕ) → ¬ (Which (TempPlace user))) where
   knows-edit : (places places' : NamedPlaces) (tree tree' : Tree) (place : Place)
@@ -176,11 +181,7 @@ module _ (Which : Place → Type 0) (never : (user : ℕ) → ¬ (Which (TempPla
 
     read-names : map.get read place ≡ named_in (map.get tree place)
     read-names = get-insert_same place_total place_exact places place (named_by (named_in (map.get tree place)))
-        ∙ right (map.get tree place) found
-      where
-        right : (held : Option Files) → is_some held ≡ true → Some (named_by (named_in held)) ≡ named_in held
-        right None none = cc
-        right (Some files) some = refl
+        ∙ names-there (map.get tree place) found
 
     -- a directory that was read
     pub knows-read : KnowsOf Which places tree → KnowsOf Which read tree

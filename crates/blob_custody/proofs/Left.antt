@@ -54,7 +54,7 @@ left-op disk op left is = elim (cases_lt (length disk.pending) is.keep) [
 ]
 
 -- where nothing is pending it leaves the view
-nothing-pending : (tree : Tree) (keep : ℕ) (left : Tree) → IsImage tree (take keep []) left → left ≡ tree
+pub nothing-pending : (tree : Tree) (keep : ℕ) (left : Tree) → IsImage tree (take keep []) left → left ≡ tree
 nothing-pending tree zero left is = is
 nothing-pending tree (suc keep) left is = is
 

@@ -17,6 +17,7 @@ use Rattle.tree_model.proofs.Images.{IsImage-applied}
 use Rattle.tree_model.proofs.Parts.{part-own_filled, part-other_filled}
 use Rattle.keystore_model.specs.declared.entry.StoreEntry.{StoreEntry}
 use Rattle.keystore_model.specs.Store.{entry_of, IsLive, without, Differ}
+use Rattle.keystore_model.proofs.Elements.{Contains-none}
 use Rattle.keystore_model.proofs.Stores.{decide-bytes, none-live, entry-push, entry-push_other}
 use Rattle.keystore_model.proofs.Stores.{entry-without_same, entry-without_other, live-without}
 use Rattle.deferred_delete.specs.declared.items.Item.{Item}
@@ -315,4 +316,13 @@ due-entries custody item clean none listed synced = record {
       (λ same. (clean.gone none item listed synced).gone left is (subst (IsNamed left) same named));
   held = λ blob held. entry-without_other custody.entries item.blob blob
       (λ same. clean.free item listed (subst (Contains custody.held) same held));
+}
+
+-- nothing is let go where nothing is gained
+pub lets-none : (held then : List Blob) → then ≡ held → LetsGo held [] then
+lets-none held then same = record {
+  all = λ blob has. inl (subst (λ blobs. Contains blobs blob) (sym same) has);
+  still = λ blob has. subst (λ blobs. Contains blobs blob) same has;
+  apart = λ blob has none. Contains-none blob none;
+  were = λ blob none. absurd (Contains-none blob none);
 }

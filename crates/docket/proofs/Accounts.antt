@@ -15,7 +15,7 @@ use Rattle.std.proofs.lemmas.List.Elements.{Contains-push, Contains-push_cases}
 use Rattle.std.proofs.lemmas.List.Elements.{Contains-append_left, Contains-append_right, Contains-append_cases}
 use Rattle.tree_model.proofs.Maps.{decide_key, get-insert_same, get-insert_other, get-remove_same, get-remove_other}
 use Rattle.sorted_map.specs.Sums.{total_by}
-use Rattle.sorted_map.proofs.Sums.{worth, sum-insert, sum-remove}
+use Rattle.sorted_map.proofs.Sums.{worth, sum-insert, sum-remove, worth-length}
 use Rattle.docket.specs.Accounts.{AllWait, Accounted}
 use Rattle.docket.specs.Docket.{DocketState, empty_docket, queue_of}
 use Rattle.docket.specs.Docket.{with_queue, with_command, with_first_command, after_begin}
@@ -242,10 +242,6 @@ module _ {A C R : Type 0} {cmp : A → A → Ordering} (total : IsTotalOrder cmp
         → Contains (unwrap_or found []) n
     in_queue None n h = absurd h
     in_queue (Some ns) n h = h
-
-    worth-length : (found : Option (List ℕ)) → worth length found ≡ length (unwrap_or found [])
-    worth-length None = refl
-    worth-length (Some ns) = refl
 
     module _ (command : C) (new : List ℕ) (joins : Joins command new) where
       abbrev actor : A

@@ -3,7 +3,8 @@ use Rattle.std.specs.Prelude.{ℕ, List, [], ◌∷◌, ◌++◌, length, codes}
 use Rattle.std.specs.List.{flat_map}
 use Rattle.journal_model.specs.declared.commands.Command.{Command}
 use Rattle.journal_model.specs.declared.commands.Reply.{Reply}
-use Rattle.journal_model.specs.declared.commands.Reply.TheVariants.{Done, Ended, UserExists, Ready, TreeFault, StoreFault}
+use Rattle.journal_model.specs.declared.commands.Reply.TheVariants.{Done, Ended, UserExists, Ready}
+use Rattle.journal_model.specs.declared.commands.Reply.TheVariants.{TreeFault, StoreFault}
 use Rattle.journal_model.specs.declared.entries.Change.{Change}
 use Rattle.journal_model.specs.declared.entries.Change.TheVariants.{Create as Created}
 use Rattle.journal_model.specs.declared.entries.Entry.{Entry}

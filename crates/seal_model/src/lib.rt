@@ -5,7 +5,8 @@
 
 ghost use Rattle.seal_model.specs.Laws.{IsByteField, InverseIsPower, ByteProducts, IsBlockRing};
 ghost use Rattle.seal_model.specs.Laws.{BlockModulusIsR, HashGoesByBlocks, RemainderIsRemainder};
-ghost use Rattle.seal_model.specs.Laws.{SBoxValues, UnsealAnswersAll, UnsealGivesText, SealedTextsOpen, OnlySealedOpens};
+ghost use Rattle.seal_model.specs.Laws.{SBoxValues, UnsealAnswersAll, UnsealGivesText};
+ghost use Rattle.seal_model.specs.Laws.{SealedTextsOpen, OnlySealedOpens};
 
 /// `remainder` leaves the remainder of a polynomial by division.
 pub fn remainder_is_remainder()

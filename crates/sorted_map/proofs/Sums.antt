@@ -1,6 +1,6 @@
 -- Sums over the values of a finite map: what an insertion and a removal add and take.
 use Rattle.std.proofs.Common.{◌≡◌, ℕ, ◌+◌, true, cond, T, List, [], ◌∷◌, refl, sym, ap, ◌∙◌, subst, arith}
-use Rattle.std.specs.Prelude.{Option, Some, None, not, map as map_list}
+use Rattle.std.specs.Prelude.{Option, Some, None, not, length, unwrap_or, map as map_list}
 use Rattle.std.specs.declared.cmp.Ordering.{Ordering}
 use Rattle.std.specs.declared.cmp.Ordering.TheVariants.{Less, Equal, Greater}
 use Rattle.std.specs.Ordering.{is_lt, is_eq, eq_by_cmp}
@@ -18,8 +18,13 @@ abbrev pub worth : {X : Type 0} → (X → ℕ) → Option X → ℕ
 worth f None = 0
 worth f (Some x) = f x
 
+-- a list that may be there adds its length
+pub worth-length : {X : Type 0} (found : Option (List X)) → worth length found ≡ length (unwrap_or found [])
+worth-length None = refl
+worth-length (Some xs) = refl
+
 module _ {K X : Type 0} {R : K → K → Ordering} (total : IsTotalOrder R) (f : X → ℕ) where
-  absent-below : (k : K) (es : List (K × X)) → T (below_all R k es) → find R k es ≡ None
+  pub absent-below : (k : K) (es : List (K × X)) → T (below_all R k es) → find R k es ≡ None
   absent-below k [] below = refl
   absent-below k (e ∷ es) below =
       ap (λ r. cond (is_eq r) (Some e.1) (find R k es)) (T_less (R k e.0) (T_first _ _ below))

@@ -147,12 +147,3 @@ lets-all held = record {
   apart = λ blob none. absurd (Contains-none blob none);
   were = λ blob has. has;
 }
-
--- nothing is let go where nothing is gained
-pub lets-none : (held then : List Blob) → then ≡ held → LetsGo held [] then
-lets-none held then same = record {
-  all = λ blob has. inl (subst (λ blobs. Contains blobs blob) (sym same) has);
-  still = λ blob has. subst (λ blobs. Contains blobs blob) same has;
-  apart = λ blob has none. Contains-none blob none;
-  were = λ blob none. absurd (Contains-none blob none);
-}

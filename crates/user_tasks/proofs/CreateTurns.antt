@@ -51,7 +51,8 @@ use Rattle.user_tasks.specs.Create.{ce_frame, de_frame}
 use Rattle.user_tasks.specs.Create.{sealed_at, after, after_ce, after_de, hears, creates}
 use Rattle.user_tasks.specs.Stores.{op_turn, IsStoreTurn}
 use Rattle.user_tasks.specs.Tasks.{UserTurns}
-use Rattle.user_tasks.proofs.AsideOps.{aside-step, aside-gains, debris-gains, lets-none}
+use Rattle.blob_custody.proofs.Steps.{lets-none}
+use Rattle.user_tasks.proofs.AsideOps.{aside-step, aside-gains, debris-gains}
 use Rattle.user_tasks.proofs.Placing.{IsWritten, written-at, ce-put, de-put}
 use Rattle.user_tasks.proofs.Whole.{same-parts}
 use Rattle.user_tasks.proofs.Writing.{leads-to, IsFramed, store-has, framed-shows}

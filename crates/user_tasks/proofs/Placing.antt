@@ -39,7 +39,8 @@ use Rattle.store_task.proofs.StoredFiles.{files-named}
 use Rattle.user_tasks.specs.declared.creates.Stage.TheVariants.{StoringCe, StoringDe}
 use Rattle.user_tasks.specs.Create.{Creating, Stores, IsCreate, create_rest, creates}
 use Rattle.user_tasks.specs.Stores.{part}
-use Rattle.user_tasks.proofs.AsideOps.{absent-gains, lets-all, lets-none}
+use Rattle.blob_custody.proofs.Steps.{lets-none}
+use Rattle.user_tasks.proofs.AsideOps.{absent-gains, lets-all}
 use Rattle.user_tasks.proofs.NewUsers.{IsKept, keeps-born, born-gains}
 use Rattle.user_tasks.proofs.Whole.{same-parts, always-here}
 use Rattle.user_tasks.proofs.Writing.{leads-to}

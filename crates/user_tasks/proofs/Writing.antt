@@ -44,7 +44,8 @@ use Rattle.store_task.specs.Turns.{PutsInPlace, DoingShows}
 use Rattle.store_task.proofs.HeldBlobs.{blobs-held}
 use Rattle.store_task.proofs.Places.{temp-written}
 use Rattle.user_tasks.specs.Stores.{Frame, rest_in, part, whole_at, op_turn, turn_of}
-use Rattle.user_tasks.proofs.AsideOps.{aside-brings, aside-turn, aside-step, aside-gains, aside-part, lets-none}
+use Rattle.blob_custody.proofs.Steps.{lets-none}
+use Rattle.user_tasks.proofs.AsideOps.{aside-brings, aside-turn, aside-step, aside-gains, aside-part}
 use Rattle.user_tasks.proofs.Whole.{whole-view, whole-here, whole-always, part-temp}
 
 -- facts of two lists

@@ -53,7 +53,8 @@ use Rattle.vold_book.proofs.NamesLive.{renames-gained}
 use Rattle.vold_book.proofs.Tracked.{noted-stays}
 use Rattle.vold_book.proofs.Worked.{stands-now, held-now}
 use Rattle.vold_book.proofs.Custodies.{sensed, CleanSensed, CleanAt, clean-still, clean-renamed, clean-synced}
-use Rattle.vold_book.proofs.Custodies.{clean-entered, lets-nothing}
+use Rattle.blob_custody.proofs.Steps.{lets-none}
+use Rattle.vold_book.proofs.Custodies.{clean-entered}
 use Rattle.vold_book.proofs.CleanListing.{clean-found}
 
 -- what a task's operation brings
@@ -95,7 +96,7 @@ module _ (book : Plain) (whole : Whole book) (actor : Actor) (it then : Running)
       clean-renamed book whole actor it then runs bench user (Write site file failed.0) []
       (quiet-operation book.bench.disk user (Write site file failed.0)
       (written-quiet view site file bytes failed.0 names brings))
-      (lets-nothing (held_of it) (held_of then) same) (ap sensed failed.1)
+      (lets-none (held_of it) (held_of then) same) (ap sensed failed.1)
   failed-op bench view user (RenameFile site from to) names same brings failed =
       clean-rests bench same (ap sensed failed)
   failed-op bench view user (RenameDir from to) names same brings failed = clean-rests bench same (ap sensed failed)
@@ -161,7 +162,7 @@ module _ (book : Plain) (whole : Whole book) (actor : Actor) (it then : Running)
       clean-renamed book whole actor it then runs bench user op []
       (renames-gained (sealed (vault_of book.seed book.bench.store)) (timeline book.bench.disk (machine_of book))
       user whole.worlds op [] calls.gained)
-      (lets-nothing (held_of it) (held_of then) same) (ap sensed does.1)
+      (lets-none (held_of it) (held_of then) same) (ap sensed does.1)
   recovery-done recovery none same down bench Sync answer calls does =
       clean-synced book whole actor it then runs bench same (ap sensed does.1)
   recovery-done recovery none same down bench ListCall answer calls does =

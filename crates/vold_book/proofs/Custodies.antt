@@ -13,7 +13,7 @@ use Rattle.journal_model.specs.Machine.{is_up}
 use Rattle.keystore_model.specs.declared.entry.StoreEntry.{StoreEntry}
 use Rattle.keystore_model.specs.declared.entry.Tag.{Tag}
 use Rattle.keystore_model.specs.Store.{Store, IsGenerated, new_entry}
-use Rattle.keystore_model.proofs.Elements.{Contains-none, Contains-first}
+use Rattle.keystore_model.proofs.Elements.{Contains-first}
 use Rattle.keystore_model.proofs.Stores.{not-given}
 use Rattle.deferred_delete.specs.Deferral.{Deferral, noted}
 use Rattle.blob_custody.specs.Custody.{Custody, IsListed, IsClean}
@@ -63,15 +63,6 @@ clean-listed custody next promised clean = record {
   gone = clean.gone;
   held_live = clean.held_live;
   held_gone = clean.held_gone;
-}
-
--- what is held is held still
-pub lets-nothing : (held after : List Blob) → after ≡ held → LetsGo held [] after
-lets-nothing held after same = record {
-  all = λ blob has. inl (subst (λ blobs. Contains blobs blob) (sym same) has);
-  still = λ blob has. subst (λ blobs. Contains blobs blob) same has;
-  apart = λ blob has none. Contains-none blob none;
-  were = λ blob none. absurd (Contains-none blob none);
 }
 
 module _ (book : Plain) (whole : Whole book) where

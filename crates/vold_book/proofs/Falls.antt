@@ -9,7 +9,7 @@ use Rattle.std.specs.FinMap as map
 use Rattle.std.specs.FinMap.{IsAntisymmetric, entries_sorted}
 use Rattle.std.specs.FinMap.Entries.{find, is_sorted, below_all}
 use Rattle.std.specs.Ordering.{is_eq, eq_by_cmp}
-use Rattle.tree_model.proofs.Logic.{is_equal, T_first, T_second, T_less}
+use Rattle.tree_model.proofs.Logic.{is_equal, T_first, T_second}
 use Rattle.tree_model.proofs.Maps.{tied, decide_key, get-remove_same, get-remove_other, insert-remove}
 use Rattle.tree_model.specs.declared.sites.LocalOp.{LocalOp}
 use Rattle.tree_model.specs.declared.sites.LocalOp.TheVariants.{MakeDir, Write, RenameFile}
@@ -26,7 +26,7 @@ use Rattle.journal_model.specs.Actor.{actor_total, actor_exact}
 use Rattle.journal_model.specs.Command.{actor_of, user_in}
 use Rattle.journal_model.proofs.ByCommand.{no-user}
 use Rattle.sorted_map.specs.Sums.{total_by}
-use Rattle.sorted_map.proofs.Sums.{worth, sum-insert, sum-remove}
+use Rattle.sorted_map.proofs.Sums.{absent-below, worth, sum-insert, sum-remove}
 use Rattle.docket.proofs.Accounts.{sum-left}
 use Rattle.step_core.specs.Table.{NamedPlaces}
 use Rattle.task_turns.specs.declared.calls.Answer.{Answer}
@@ -51,19 +51,13 @@ use Rattle.vold_book.proofs.Sizes.{len-with_op}
 
 -- two counts that agree on each value of a map have one sum
 module _ {K X : Type 0} {R : K → K → Ordering} (total : IsTotalOrder R) (exact : IsAntisymmetric R) (f g : X → ℕ) where
-  none-below : (k : K) (rows : List (K × X)) → T (below_all R k rows) → find R k rows ≡ None
-  none-below k [] below = refl
-  none-below k (row ∷ rows) below =
-      ap (λ order. cond (is_eq order) (Some row.1) (find R k rows)) (T_less (R k row.0) (T_first _ _ below))
-      ∙ none-below k rows (T_second _ _ below)
-
   found-later : (row : K × X) (rows : List (K × X)) (k : K) (x : X) → T (below_all R row.0 rows)
       → find R k rows ≡ Some x → find R k (row ∷ rows) ≡ Some x
   found-later row rows k x below found =
       elim (eq_by_cmp R k row.0) as (λ same. eq_by_cmp R k row.0 ≡ same
       → cond same (Some row.1) (find R k rows) ≡ Some x) [
         | true ↦ λ is. absurd (none-some x (sym (subst (λ at. find R at rows ≡ None)
-            (sym (exact k row.0 (is_equal _ is))) (none-below row.0 rows below)) ∙ found))
+            (sym (exact k row.0 (is_equal _ is))) (absent-below total f row.0 rows below)) ∙ found))
         | false ↦ λ is. found
       ] refl
 

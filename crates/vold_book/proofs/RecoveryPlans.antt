@@ -54,6 +54,7 @@ use Rattle.task_turns.specs.declared.next.Next.{Next}
 use Rattle.task_turns.specs.declared.next.Next.TheVariants.{Call as CallNext}
 use Rattle.task_turns.specs.Names.{Gains}
 use Rattle.bench.specs.Bench.{KnowsPlaces, AreUnnamed, Nothing, Unnamed, Named, named_in, listed}
+use Rattle.bench.proofs.Known.{names-there}
 use Rattle.vold_book.specs.declared.recovery.Recovery.{Recovery}
 use Rattle.vold_book.specs.declared.recovery.Recovery.TheVariants.{Sweeping, Reading, Settled}
 use Rattle.vold_book.specs.Recovery.{max_places, is_nothing, RestsAt, NamesFirst, AllPlaced, IsSwept, IsSettled}
@@ -239,10 +240,6 @@ module _ (ground : Ground) (place : Place) (there : is_some (map.get ground.plac
     unlisted = swept.unlisted;
   }
 
-  named-there : (found : Option Files) → is_some found ≡ true → Some (named_by (named_in found)) ≡ named_in found
-  named-there None none = cc
-  named-there (Some files) some = refl
-
   -- of one more place it is known what it names
   read-names : (count : ℕ) → slice_get (map.keys ground.places) count ≡ Some place
       → KnowsPlaces ground.places (view ground.line.disk)
@@ -250,7 +247,7 @@ module _ (ground : Ground) (place : Place) (there : is_some (map.get ground.plac
       → NamesFirst read (view ground.line.disk) (count + 1)
   read-names count here knows names at other low is = elim (decide_key place_total place_exact other place) [
     | inl same ↦ subst (λ p. map.get read p ≡ named_in (map.get (view ground.line.disk) p)) (sym same)
-        (read-here ∙ named-there (map.get (view ground.line.disk) place) (sym (knows place) ∙ there))
+        (read-here ∙ names-there (map.get (view ground.line.disk) place) (sym (knows place) ∙ there))
     | inr differ ↦ read-other other differ ∙ names at other (before differ) key
   ]
     where

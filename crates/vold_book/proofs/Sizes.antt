@@ -20,7 +20,7 @@ use Rattle.tree_model.specs.Sites.{place_of, op_of}
 use Rattle.tree_model.specs.Parts.{part_of, LocalFits}
 use Rattle.tree_model.proofs.Images.{image-IsImage, IsImage-append}
 use Rattle.blob_custody.specs.Custody.{IsLeft}
-use Rattle.blob_custody.proofs.Left.{all-left, view-left, view-op}
+use Rattle.blob_custody.proofs.Left.{nothing-pending, all-left, view-left, view-op}
 use Rattle.user_world.specs.Turns.{adds_local, takes_local}
 
 module _ (tree : Tree) (place : Place) where
@@ -151,12 +151,8 @@ exceeds-op disk user op left is = elim (cases_lt (length disk.pending) is.keep) 
 ]
 
 -- where nothing is pending, a stop leaves what is stable
-still : (tree : Tree) (keep : ℕ) (left : Tree) → IsImage tree (take keep []) left → left ≡ tree
-still tree zero left is = is
-still tree (suc keep) left is = is
-
 pub left-still : (tree left : Tree) → IsLeft (record { stable = tree; pending = [] }) left → left ≡ tree
-left-still tree left is = still tree is.keep left is.image
+left-still tree left is = nothing-pending tree is.keep left is.image
 
 pub exceeds-synced : (disk : Disk) (left : Tree) → IsLeft (synced disk) left → Exceeds disk 0 left
 exceeds-synced disk left is = record {

@@ -2,7 +2,7 @@
 use Rattle.std.proofs.Common.{◌≡◌, ℕ, ◌+◌, ◌*◌, ◌-◌, ◌^◌, ◌<◌, ◌≤◌, Bool, List, [], ◌∷◌, ◌++◌, length, length-append}
 use Rattle.std.proofs.Common.{true, mul-add, mul-one, refl, sym, ap, ◌∙◌, subst, arith}
 use Rattle.std.proofs.lemmas.List.{length-map}
-use Rattle.std.specs.Prelude.{Option, Some, None, Ok, unwrap_or}
+use Rattle.std.specs.Prelude.{Option, Some, None, Ok}
 use Rattle.std.specs.FinMap as map
 use Rattle.tree_model.specs.declared.blobs.Blob.{Blob}
 use Rattle.tree_model.specs.declared.ops.Cut.{Cut}
@@ -23,7 +23,7 @@ use Rattle.journal_model.specs.declared.entries.Birth.{Birth}
 use Rattle.journal_model.specs.Command.{actor_of, user_in}
 use Rattle.journal_model.specs.Actor.{actor_cmp, actor_total, actor_exact}
 use Rattle.sorted_map.specs.Sums.{total_by}
-use Rattle.sorted_map.proofs.Sums.{worth, sum-insert, sum-remove}
+use Rattle.sorted_map.proofs.Sums.{worth, sum-insert, sum-remove, worth-length}
 use Rattle.docket.specs.Docket.{after_begin as docket_begun, with_command as docket_with, with_first_command}
 use Rattle.docket.specs.Docket.{with_queue, queue_of, empty_docket}
 use Rattle.docket.proofs.Accounts.{sum-left, sum-empty}
@@ -106,16 +106,12 @@ module _ (docket : Docket) (each : ℕ) (of : Running → ℕ) (made : ℕ) (few
       }) each of made
   within-queued actor command queue long =
       let s = sum-insert actor_total length docket.waiting actor queue in
-      let w = queue-worth (map.get docket.waiting actor) in
+      let w = worth-length (map.get docket.waiting actor) in
       let waits = one-more each (total_by length (map.values docket.waiting))
       (total_by length (map.values (map.insert docket.waiting actor queue))) (omega (arith, s, w, long)) in
       let given = one-more each (length docket.commands) (length (docket.commands ++ command ∷ []))
       (sym (length-append docket.commands (command ∷ []))) in
       omega (arith, waits, given, few)
-    where
-      queue-worth : (found : Option (List ℕ)) → worth length found ≡ length (unwrap_or found [])
-      queue-worth None = refl
-      queue-worth (Some numbers) = refl
 
 -- what is listed takes a number each, and no more promises than it came with
 pushed_all-next : (list : Deferral) (blobs : List Blob) (synced : Bool)
