@@ -1,6 +1,6 @@
--- The two devices with what is known of them, and what each call leaves of both.
-use Rattle.std.specs.Prelude.{Bool, false, ◌≡◌, ℕ, ◌+◌, ◌^◌, ◌<◌, true, List, [], ◌∷◌, Option, Some, None, is_some}
-use Rattle.std.specs.Prelude.{Result, Ok, Err, length}
+-- The devices with what is known of them, and what each call leaves of them.
+use Rattle.std.specs.Prelude.{Bool, false, ◌≡◌, ◌≢◌, ℕ, ◌+◌, ◌^◌, ◌<◌, true, List, [], ◌∷◌, Option, Some, None}
+use Rattle.std.specs.Prelude.{is_some, Result, Ok, Err, length}
 use Rattle.std.specs.FinMap as map
 use Rattle.tree_model.specs.declared.blobs.Blob.{Blob}
 use Rattle.tree_model.specs.declared.device.DevFault.{DevFault}
@@ -16,9 +16,11 @@ use Rattle.tree_model.specs.Named.{named_at}
 use Rattle.tree_model.specs.Parts.{part_of, LocalFits}
 use Rattle.tree_model.specs.Sites.{op_of, place_of}
 use Rattle.tree_model.specs.Tree.{Tree}
+use Rattle.key_ring.specs.Ring.{Ring, installed}
 use Rattle.deferred_delete.specs.Deferral.{Deferral, noted}
 use Rattle.journal_model.specs.declared.entries.Device.{Device}
 use Rattle.journal_model.specs.declared.entries.Device.TheVariants.{Tree as TreeDevice, Store as StoreDevice}
+use Rattle.journal_model.specs.declared.entries.Device.TheVariants.{Ring as RingDevice}
 use Rattle.keystore_model.specs.Sealed.{encrypted}
 use Rattle.keystore_model.specs.Store.{Store, IsGenerated, IsCurrent, blobs_of}
 use Rattle.blob_custody.specs.Steps.{pushed_all}
@@ -28,23 +30,26 @@ use Rattle.task_turns.specs.declared.calls.Answer.{Answer}
 use Rattle.task_turns.specs.declared.calls.Answer.TheVariants.{Done, Blob as IsBlob, Sealed}
 use Rattle.task_turns.specs.declared.calls.Call.{Call}
 use Rattle.task_turns.specs.declared.calls.Call.TheVariants.{Op, Sync, List as ListCall, Read}
-use Rattle.task_turns.specs.declared.calls.Call.TheVariants.{Generate, Encrypt, Entries}
+use Rattle.task_turns.specs.declared.calls.Call.TheVariants.{Generate, Encrypt, Entries, Add}
 use Rattle.bench.specs.declared.made.Made.{Made}
 use Rattle.bench.specs.declared.made.Made.TheVariants.{Heard, Failed}
 
 -- the devices, the places that are known, each with the blob that it names, and the list of waiting deletes
-pub record BenchState (D E : Type 0) : Type 0 where
+pub record BenchState (D E F : Type 0) : Type 0 where
   pub tree : D
   pub store : E
+  pub ring : F
   pub places : NamedPlaces
   pub list : Deferral
 
 -- how contracts see the devices
-pub record Senses (D E : Type 0) : Type 0 where
+pub record Senses (D E F : Type 0) : Type 0 where
   pub disk : D → Disk
   pub tree_counts : D → Counts
   pub store : E → Store
   pub store_counts : E → Counts
+  pub keys : F → Ring
+  pub ring_counts : F → Counts
 
 -- what they see of a bench
 pub record Plain : Type 0 where
@@ -52,15 +57,19 @@ pub record Plain : Type 0 where
   pub tree_counts : Counts
   pub store : Store
   pub store_counts : Counts
+  pub keys : Ring
+  pub ring_counts : Counts
   pub places : NamedPlaces
   pub list : Deferral
 
-abbrev pub seen : {D E : Type 0} → Senses D E → BenchState D E → Plain
+abbrev pub seen : {D E F : Type 0} → Senses D E F → BenchState D E F → Plain
 seen senses bench = record {
   disk = senses.disk bench.tree;
   tree_counts = senses.tree_counts bench.tree;
   store = senses.store bench.store;
   store_counts = senses.store_counts bench.store;
+  keys = senses.keys bench.ring;
+  ring_counts = senses.ring_counts bench.ring;
   places = bench.places;
   list = bench.list;
 }
@@ -107,6 +116,7 @@ Fits bench ListCall = Unit {0}
 Fits bench (Read place) = is_some (map.get (view bench.disk) place) ≡ true
 Fits bench (Generate tag app_id) = length bench.store.given < 2 ^ 63
 Fits bench (Encrypt blob app_id nonce key) = IsCurrent bench.store blob app_id
+Fits bench (Add user class key) = Unit {0}
 Fits bench Entries = bench.list.next + bench.list.promised + length bench.store.entries < 2 ^ 63
 
 abbrev pub device_of : Call → Device
@@ -117,11 +127,15 @@ device_of (Read place) = TreeDevice
 device_of (Generate tag app_id) = StoreDevice
 device_of (Encrypt blob app_id nonce key) = StoreDevice
 device_of Entries = StoreDevice
+device_of (Add user class key) = RingDevice
 
 -- everything but the counts as it was
 abbrev pub Rests : Plain → Plain → Type 0
-Rests before after = after
-    ≡ record before { tree_counts = after.tree_counts; store_counts = after.store_counts }
+Rests before after = after ≡ record before {
+  tree_counts = after.tree_counts;
+  store_counts = after.store_counts;
+  ring_counts = after.ring_counts;
+}
 
 -- what a call leaves that was done, by what the task hears of it
 abbrev pub Does : Plain → Plain → Call → Answer → Type 0
@@ -149,6 +163,10 @@ Does before after (Encrypt blob app_id nonce key) answer = (answer ≡ Sealed (e
 Does before after Entries answer = (answer ≡ Done) × ((found : List Blob)
     × AreUnnamed before.places (blobs_of before.store.entries) found
     × (after ≡ record before { store_counts = after.store_counts; list = listed before.list found }))
+Does before after (Add user class key) answer = (answer ≡ Done) × (after ≡ record before {
+  keys = installed before.keys user class key;
+  ring_counts = after.ring_counts;
+})
 
 -- a failed call leaves what was; a write leaves any bytes
 abbrev pub IsFailedOp : Plain → Plain → ℕ → LocalOp → Type 0
@@ -179,9 +197,13 @@ told_of (Ok (Heard answer)) = Ok tt
 told_of (Ok (Failed device)) = Err DeviceFailed
 told_of (Err want) = Err WantsMemory
 
--- the device of the call counts it, and the other's counts stay
-abbrev pub AreCounted : Plain → Plain → Device → Result (Unit {0}) DevFault → Type 0
-AreCounted before after TreeDevice told =
-    IsCounted before.tree_counts after.tree_counts told × (after.store_counts ≡ before.store_counts)
-AreCounted before after StoreDevice told =
-    (after.tree_counts ≡ before.tree_counts) × IsCounted before.store_counts after.store_counts told
+-- a device's counts
+abbrev pub counts_of : Plain → Device → Counts
+counts_of bench TreeDevice = bench.tree_counts
+counts_of bench StoreDevice = bench.store_counts
+counts_of bench RingDevice = bench.ring_counts
+
+-- the device of the call counts it, and the others' counts stay
+pub record AreCounted (before after : Plain) (device : Device) (told : Result (Unit {0}) DevFault) : Type 0 where
+  pub counts : IsCounted (counts_of before device) (counts_of after device) told
+  pub others : (other : Device) → other ≢ device → counts_of after other ≡ counts_of before other

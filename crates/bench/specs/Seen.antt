@@ -7,6 +7,7 @@ use Rattle.tree_model.specs.declared.places.Place.{Place}
 use Rattle.tree_model.specs.Counted.{Counts}
 use Rattle.tree_model.specs.Disk.{Disk}
 use Rattle.keystore_model.specs.Store.{Store}
+use Rattle.key_ring.specs.Ring.{Ring}
 use Rattle.step_core.specs.Table.{NamedPlaces, Users, named_by}
 use Rattle.task_turns.specs.declared.calls.Answer.TheVariants.{Blob as IsBlob}
 use Rattle.task_turns.specs.declared.calls.Call.{Call}
@@ -18,23 +19,34 @@ use Rattle.bench.specs.Bench.{BenchState, Senses, Plain, seen, IsMade, AreCounte
 use Rattle.bench.specs.Steps.{IsWhole, marks_with}
 
 -- the bench without its seed, and of its table the places alone
-abbrev pub state_of : {T K : Type 0} → Bench T K → BenchState T K
+abbrev pub state_of : {T K G : Type 0} → Bench T K G → BenchState T K G
 state_of bench = record {
   tree = bench.tree;
   store = bench.store;
+  ring = bench.ring;
   places = bench.table.places;
   list = bench.list;
 }
 
 -- the senses of these ghost members of the devices
-abbrev pub senses_by : {T K : Type 0} → (T → Disk) → (T → Counts) → (K → Store) → (K → Counts) → Senses T K
-senses_by disk tree_counts store store_counts =
-    record { disk = disk; tree_counts = tree_counts; store = store; store_counts = store_counts }
+abbrev pub senses_by : {T K G : Type 0} → (T → Disk) → (T → Counts) → (K → Store) → (K → Counts) → (G → Ring)
+    → (G → Counts)
+    → Senses T K G
+senses_by disk tree_counts store store_counts keys ring_counts = record {
+  disk = disk;
+  tree_counts = tree_counts;
+  store = store;
+  store_counts = store_counts;
+  keys = keys;
+  ring_counts = ring_counts;
+}
 
 -- what contracts see of a bench by them
-abbrev pub seen_by : {T K : Type 0} → (T → Disk) → (T → Counts) → (K → Store) → (K → Counts) → Bench T K → Plain
-seen_by disk tree_counts store store_counts bench =
-    seen (senses_by disk tree_counts store store_counts) (state_of bench)
+abbrev pub seen_by : {T K G : Type 0} → (T → Disk) → (T → Counts) → (K → Store) → (K → Counts) → (G → Ring)
+    → (G → Counts)
+    → Bench T K G → Plain
+seen_by disk tree_counts store store_counts keys ring_counts bench =
+    seen (senses_by disk tree_counts store store_counts keys ring_counts) (state_of bench)
 
 -- the marks after a call that was done: a list takes all
 abbrev pub marks_after : Users → Call → Users
@@ -63,7 +75,7 @@ AnswersWhole (Ok (Heard (IsBlob blob))) = length blob ≡ 32
 AnswersWhole told = Unit {0}
 
 -- what a call leaves of a bench, by its answer
-pub record Makes {T K : Type 0} (senses : Senses T K) (before after : Bench T K) (call : Call)
+pub record Makes {T K G : Type 0} (senses : Senses T K G) (before after : Bench T K G) (call : Call)
     (told : Result Made NoMemory) : Type 0 where
   pub made : IsMade (seen senses (state_of before)) (seen senses (state_of after)) call told
   pub counted : AreCounted (seen senses (state_of before)) (seen senses (state_of after)) (device_of call)

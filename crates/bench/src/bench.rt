@@ -6,7 +6,7 @@ ghost use Rattle.deferred_delete.specs.Deferral.{Deferral};
 ghost use Rattle.keystore_model.specs.Store.{IsCurrent};
 ghost use Rattle.step_core.specs.Table.{empty_table};
 ghost use Rattle.task_turns.specs.declared.calls.Call.TheVariants.{Op, Sync, List as ListCall, Read};
-ghost use Rattle.task_turns.specs.declared.calls.Call.TheVariants.{Generate, Encrypt, Entries};
+ghost use Rattle.task_turns.specs.declared.calls.Call.TheVariants.{Generate, Encrypt, Entries, Add};
 ghost use Rattle.tree_model.specs.Disk.{view};
 ghost use Rattle.tree_model.specs.Parts.{part_of, LocalFits};
 
@@ -17,17 +17,19 @@ use crate::unnamed::{list_unnamed, named_blobs};
 use deferred_delete::Deferred;
 use journal_model::Device;
 use key_directory::shapes;
+use key_ring::KeyRing;
 use keystore_model::{Keystore, Tag};
 use std::alloc::Global;
 use step_core::Table;
 use task_turns::{Answer, Call};
-use tree_model::{Blob, LocalOp, NoMemory, Place, TreeDisk};
+use tree_model::{Blob, Class, LocalOp, NoMemory, Place, TreeDisk};
 
 /// The devices, and what is known of them without a call.
 #[derive(Drop)]
-pub struct Bench<T: TreeDisk, K: Keystore> {
+pub struct Bench<T: TreeDisk, K: Keystore, G: KeyRing> {
     pub tree: T,
     pub store: K,
+    pub ring: G,
     /// The seed of the boot.
     pub seed: [u8; 32],
     /// The blobs whose deletion waits.
@@ -36,11 +38,12 @@ pub struct Bench<T: TreeDisk, K: Keystore> {
     pub table: Table,
 }
 
-impl<T: TreeDisk, K: Keystore> Bench<T, K> {
+impl<T: TreeDisk, K: Keystore, G: KeyRing> Bench<T, K, G> {
     /// The devices, of which nothing is known, and no blob is listed.
-    pub fn new(tree: T, store: K, seed: [u8; 32], alloc: Global) -> Bench<T, K>
+    pub fn new(tree: T, store: K, ring: G, seed: [u8; 32], alloc: Global) -> Bench<T, K, G>
         ensures tree { result.tree ≡ tree }
         ensures store { result.store ≡ store }
+        ensures ring { result.ring ≡ ring }
         ensures seed { result.seed ≡ seed }
         ensures list { result.list ≡ record { items = []; next = 0; promised = 0 } }
         ensures table { result.table ≡ empty_table }
@@ -48,6 +51,7 @@ impl<T: TreeDisk, K: Keystore> Bench<T, K> {
         Bench {
             tree,
             store,
+            ring,
             seed,
             list: Deferred::new(alloc),
             table: Table::new(alloc),
@@ -57,11 +61,11 @@ impl<T: TreeDisk, K: Keystore> Bench<T, K> {
     /// Makes the one call of its device, and follows it in the table and in the list. All memory that this takes is
     /// taken before the call, but for what the device hands out.
     pub fn make(&mut self, alloc: Global, call: &Call) -> Result<Made, NoMemory>
-        requires fits { Fits (seen_by T.disk T.counts K.store K.counts self.old) call.now }
-        ensures made { IsMade (seen_by T.disk T.counts K.store K.counts self.old)
-            (seen_by T.disk T.counts K.store K.counts self.new) call.now result }
-        ensures counted { AreCounted (seen_by T.disk T.counts K.store K.counts self.old)
-            (seen_by T.disk T.counts K.store K.counts self.new) (device_of call.now) (told_of result) }
+        requires fits { Fits (seen_by T.disk T.counts K.store K.counts G.ring G.counts self.old) call.now }
+        ensures made { IsMade (seen_by T.disk T.counts K.store K.counts G.ring G.counts self.old)
+            (seen_by T.disk T.counts K.store K.counts G.ring G.counts self.new) call.now result }
+        ensures counted { AreCounted (seen_by T.disk T.counts K.store K.counts G.ring G.counts self.old)
+            (seen_by T.disk T.counts K.store K.counts G.ring G.counts self.new) (device_of call.now) (told_of result) }
         ensures seed { self.new.seed ≡ self.old.seed }
         ensures marks { self.new.table.marks ≡ marks_told self.old.table.marks call.now result }
         ensures dirty { self.new.table.dirty ≡ self.old.table.dirty }
@@ -82,13 +86,15 @@ impl<T: TreeDisk, K: Keystore> Bench<T, K> {
                 key,
             } => self.encrypt(alloc, *blob, app_id.as_slice(), *nonce, *key),
             Call::Entries => self.list_entries(alloc),
+            Call::Add { user, class, key } => self.add(alloc, *user, *class, key),
         }
     }
 
     /// Makes the operation on the user's places, and the table follows it.
     fn operate(&mut self, user: u32, op: &LocalOp, names: Option<Blob>) -> Result<Made, NoMemory>
         requires { LocalFits (part_of (view (T.disk self.old.tree)) user) op.now }
-        ensures { Makes (senses_by T.disk T.counts K.store K.counts) self.old self.new (Op user op.now names) result }
+        ensures { Makes (senses_by T.disk T.counts K.store K.counts G.ring G.counts)
+            self.old self.new (Op user op.now names) result }
     {
         read_blob(&names);
         self.table.reserve(1)?;
@@ -103,7 +109,7 @@ impl<T: TreeDisk, K: Keystore> Bench<T, K> {
 
     /// Syncs the tree, and no listed blob waits for a sync any more.
     fn sync(&mut self) -> Result<Made, NoMemory>
-        ensures { Makes (senses_by T.disk T.counts K.store K.counts) self.old self.new Sync result }
+        ensures { Makes (senses_by T.disk T.counts K.store K.counts G.ring G.counts) self.old self.new Sync result }
     {
         match self.tree.sync() {
             Ok(()) => {
@@ -116,7 +122,8 @@ impl<T: TreeDisk, K: Keystore> Bench<T, K> {
 
     /// Lists the places of the view, which are those of the table from then on.
     fn list_places(&mut self, alloc: Global) -> Result<Made, NoMemory>
-        ensures { Makes (senses_by T.disk T.counts K.store K.counts) self.old self.new ListCall result }
+        ensures { Makes (senses_by T.disk T.counts K.store K.counts G.ring G.counts)
+            self.old self.new ListCall result }
     {
         self.table.reserve(self.tree.len())?;
         match self.tree.list(alloc) {
@@ -131,7 +138,8 @@ impl<T: TreeDisk, K: Keystore> Bench<T, K> {
     /// Reads the directory at the place, and the table has the blob that it names.
     fn read(&mut self, alloc: Global, place: Place) -> Result<Made, NoMemory>
         requires { IsSome (map.get (view (T.disk self.old.tree)) place) }
-        ensures { Makes (senses_by T.disk T.counts K.store K.counts) self.old self.new (Read place) result }
+        ensures { Makes (senses_by T.disk T.counts K.store K.counts G.ring G.counts)
+            self.old self.new (Read place) result }
     {
         self.table.reserve(1)?;
         match self.tree.read(alloc, place) {
@@ -146,7 +154,7 @@ impl<T: TreeDisk, K: Keystore> Bench<T, K> {
     /// Makes an entry of the keystore.
     fn generate(&mut self, alloc: Global, tag: Tag, app_id: &[u8]) -> Result<Made, NoMemory>
         requires { length (K.store self.old.store).given < 2 ^ 63 }
-        ensures { Makes (senses_by T.disk T.counts K.store K.counts) self.old self.new
+        ensures { Makes (senses_by T.disk T.counts K.store K.counts G.ring G.counts) self.old self.new
             (Generate tag app_id.now) result }
     {
         match self.store.generate(alloc, tag, app_id) {
@@ -168,7 +176,7 @@ impl<T: TreeDisk, K: Keystore> Bench<T, K> {
         key: [u8; 64],
     ) -> Result<Made, NoMemory>
         requires entry { IsCurrent (K.store self.old.store) blob app_id.now }
-        ensures { Makes (senses_by T.disk T.counts K.store K.counts) self.old self.new
+        ensures { Makes (senses_by T.disk T.counts K.store K.counts G.ring G.counts) self.old self.new
             (Encrypt blob app_id.now nonce key) result }
     {
         match self
@@ -183,7 +191,7 @@ impl<T: TreeDisk, K: Keystore> Bench<T, K> {
     /// Lists the entries of the keystore, and puts the blobs of those on the list that no known place names.
     fn list_entries(&mut self, alloc: Global) -> Result<Made, NoMemory>
         requires { self.old.list.next + self.old.list.promised + length (K.store self.old.store).entries < 2 ^ 63 }
-        ensures { Makes (senses_by T.disk T.counts K.store K.counts) self.old self.new Entries result }
+        ensures { Makes (senses_by T.disk T.counts K.store K.counts G.ring G.counts) self.old self.new Entries result }
     {
         let named = named_blobs(alloc, &self.table)?;
         let count = self.store.len();
@@ -197,6 +205,23 @@ impl<T: TreeDisk, K: Keystore> Bench<T, K> {
                 self.list.give_back(count);
                 failure(Device::Store, fault)
             }
+        }
+    }
+
+    /// Installs the user's key.
+    fn add(
+        &mut self,
+        alloc: Global,
+        user: u32,
+        class: Class,
+        key: &[u8; 64],
+    ) -> Result<Made, NoMemory>
+        ensures { Makes (senses_by T.disk T.counts K.store K.counts G.ring G.counts) self.old self.new
+            (Add user class key.now) result }
+    {
+        match self.ring.add(alloc, user, class, key) {
+            Ok(()) => Ok(Made::Heard(Answer::Done)),
+            Err(fault) => failure(Device::Ring, fault),
         }
     }
 }

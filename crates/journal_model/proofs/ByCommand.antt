@@ -3,13 +3,15 @@
 use Rattle.std.proofs.Common.{◌≡◌, ◌≢◌, ℕ, refl, ap}
 use Rattle.std.proofs.lemmas.Option.{same_Some}
 use Rattle.std.specs.Prelude.{Bool, true, false, Option, Some, None}
+use Rattle.tree_model.specs.declared.places.Class.{Class}
+use Rattle.tree_model.specs.declared.places.Class.TheVariants.{De, Ce}
 use Rattle.journal_model.specs.declared.commands.Actor.{Actor}
 use Rattle.journal_model.specs.declared.commands.Actor.TheVariants.{Boot, Cp, User}
 use Rattle.journal_model.specs.declared.commands.Command.{Command}
 use Rattle.journal_model.specs.declared.commands.Command.TheVariants.{Create, Recover}
 use Rattle.journal_model.specs.declared.commands.Reply.{Reply}
 use Rattle.journal_model.specs.declared.commands.Reply.TheVariants.{Done, Ended, UserExists, Ready}
-use Rattle.journal_model.specs.declared.commands.Reply.TheVariants.{TreeFault, StoreFault}
+use Rattle.journal_model.specs.declared.commands.Reply.TheVariants.{TreeFault, StoreFault, RingFault}
 use Rattle.journal_model.specs.declared.entries.Change.{Change}
 use Rattle.journal_model.specs.declared.phase.Phase.{Phase}
 use Rattle.journal_model.specs.declared.phase.Phase.TheVariants.{Halted}
@@ -37,23 +39,32 @@ user-stays phase user (Create owner) reply own = refl
 user-stays phase user Recover reply own = cc
 
 -- a success that is told by less tells as much by more
-module _ (Logged Logged' : Change → Type 0) (Durable Durable' : Option ℕ → Type 0)
+module _ (Logged Logged' : Change → Type 0) (Durable Durable' : Option ℕ → Type 0) (Has Has' : ℕ → Class → Type 0)
     (logged : (change : Change) → Logged change → Logged' change)
-    (durable : (of : Option ℕ) → Durable of → Durable' of) where
+    (durable : (of : Option ℕ) → Durable of → Durable' of)
+    (has : (user : ℕ) (class : Class) → Has user class → Has' user class) where
   pub success-more : (boot : ℕ) (began : Running) (command : Command) (reply : Reply)
-      → AllowsSuccess Logged Durable boot began command reply → AllowsSuccess Logged' Durable' boot began command reply
-  success-more boot began (Create user) Done success = (logged _ success.0, durable (Some user) success.1)
+      → AllowsSuccess Logged Durable Has boot began command reply
+      → AllowsSuccess Logged' Durable' Has' boot began command reply
+  success-more boot began (Create user) Done success = (
+    logged _ success.0,
+    durable (Some user) success.1,
+    has user De success.2,
+    has user Ce success.3,
+  )
   success-more boot began (Create user) (Ended count) success = absurd success
   success-more boot began (Create user) UserExists success = absurd success
   success-more boot began (Create user) Ready success = absurd success
   success-more boot began (Create user) TreeFault success = absurd success
   success-more boot began (Create user) StoreFault success = absurd success
+  success-more boot began (Create user) RingFault success = absurd success
   success-more boot began Recover Done success = absurd success
   success-more boot began Recover (Ended count) success = (success.0, durable None success.1)
   success-more boot began Recover UserExists success = absurd success
   success-more boot began Recover Ready success = absurd success
   success-more boot began Recover TreeFault success = absurd success
   success-more boot began Recover StoreFault success = absurd success
+  success-more boot began Recover RingFault success = absurd success
 
 -- what is due when a command begins is a refusal
 due-kind : (holds : Bool) (refusal reply : Reply) → kind_of_reply refusal ≡ Refusal → due holds refusal ≡ Some reply
@@ -76,6 +87,7 @@ phase-stays phase Recover UserExists differ = refl
 phase-stays phase Recover Ready differ = refl
 phase-stays phase Recover TreeFault differ = refl
 phase-stays phase Recover StoreFault differ = refl
+phase-stays phase Recover RingFault differ = refl
 
 -- and none stops the machine
 pub never-stops : (phase : Phase) (command : Command) (reply : Reply) → phase ≢ Halted
@@ -87,3 +99,4 @@ never-stops phase Recover UserExists differ = differ
 never-stops phase Recover Ready differ = differ
 never-stops phase Recover TreeFault differ = differ
 never-stops phase Recover StoreFault differ = differ
+never-stops phase Recover RingFault differ = differ

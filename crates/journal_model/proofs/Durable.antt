@@ -9,10 +9,11 @@ use Rattle.journal_model.specs.declared.commands.Reply.TheVariants.{Done}
 use Rattle.journal_model.specs.declared.entries.Change.{Change}
 use Rattle.journal_model.specs.declared.entries.Change.TheVariants.{Create as Created}
 use Rattle.journal_model.specs.declared.entries.Entry.{Entry}
-use Rattle.journal_model.specs.declared.entries.Entry.TheVariants.{Began, Changed, Synced, Stopped, Restarted, Replied}
+use Rattle.journal_model.specs.declared.entries.Entry.TheVariants.{Began, Changed, Synced, Installed}
+use Rattle.journal_model.specs.declared.entries.Entry.TheVariants.{Stopped, Restarted, Replied}
 use Rattle.journal_model.specs.Users.{owner_of}
 use Rattle.journal_model.specs.Machine.{Machine, Running, first_machine, after_entry, machine_from, NoChangeOf}
-use Rattle.journal_model.specs.Machine.{AllowsReply, AllowsSuccess, IsDurable, MayCome, IsLegal, IsLegalFrom}
+use Rattle.journal_model.specs.Machine.{AllowsReply, AllowsSuccess, IsDurable, HasKey, MayCome, IsLegal, IsLegalFrom}
 use Rattle.journal_model.specs.Durable.{durable_changes, IsFront, Survive, LawOfCreated}
 
 -- no more changes are durable than there are
@@ -73,6 +74,7 @@ step before machine Synced counted may = (
   omega arith,
   record { fewer = counted; first = fronts machine.kept (length machine.log) machine.log counted (omega arith) },
 )
+step before machine (Installed user class) counted may = (counted, survive-same machine _ refl refl)
 step before machine (Stopped kept) counted may =
     let cut : length (take kept machine.log) ≡ kept = length-take-le kept machine.log may.2 in
     let again : take kept (take kept machine.log) ≡ take kept machine.log =
@@ -142,10 +144,10 @@ created entries number user running at is none may = told (allowed (map.get mach
 
     told : AllowsReply machine running running.verdict Done → Contains (durable_changes machine) change
     told allows =
-        let success : Contains machine.log change × NoChangeOf user (drop machine.kept machine.log) =
-        subst (λ command. AllowsSuccess (Contains machine.log) (IsDurable machine) machine.boot running command Done)
-        is
-        (subst (λ verdict. AllowsReply machine running verdict Done) none allows) in
+        let success = subst
+        (λ command. AllowsSuccess (Contains machine.log) (IsDurable machine) (HasKey machine) machine.boot running
+        command Done)
+        is (subst (λ verdict. AllowsReply machine running verdict Done) none allows) in
         elim (Contains-append_cases (durable_changes machine) (drop machine.kept machine.log) change
         (subst (λ log. Contains log change) (sym (take-append-drop machine.kept machine.log)) success.0)) [
           | inl there ↦ there

@@ -3,16 +3,20 @@ use Rattle.std.specs.Prelude.{◌≡◌, ◌≢◌, ℕ, ◌+◌, ◌≤◌, Boo
 use Rattle.std.specs.Prelude.{Option, Some, None, IsSomeAnd, IfSome, Contains}
 use Rattle.std.specs.Ordering.{nat_cmp, eq_by_cmp}
 use Rattle.std.specs.FinMap as map
+use Rattle.tree_model.specs.declared.places.Class.{Class}
+use Rattle.tree_model.specs.declared.places.Class.TheVariants.{De, Ce}
+use Rattle.key_ring.specs.Ring.{Owner, has_owner, with_owner}
 use Rattle.journal_model.specs.declared.commands.Actor.{Actor}
 use Rattle.journal_model.specs.declared.commands.Actor.TheVariants.{Boot}
 use Rattle.journal_model.specs.declared.commands.Command.{Command}
 use Rattle.journal_model.specs.declared.commands.Command.TheVariants.{Create, Recover}
 use Rattle.journal_model.specs.declared.commands.Reply.{Reply}
-use Rattle.journal_model.specs.declared.commands.Reply.TheVariants.{Done, Ended, TreeFault, StoreFault}
+use Rattle.journal_model.specs.declared.commands.Reply.TheVariants.{Done, Ended, TreeFault, StoreFault, RingFault}
 use Rattle.journal_model.specs.declared.entries.Change.{Change}
 use Rattle.journal_model.specs.declared.entries.Change.TheVariants.{Create as Created}
 use Rattle.journal_model.specs.declared.entries.Entry.{Entry}
-use Rattle.journal_model.specs.declared.entries.Entry.TheVariants.{Began, Changed, Synced, Stopped, Restarted, Replied}
+use Rattle.journal_model.specs.declared.entries.Entry.TheVariants.{Began, Changed, Synced, Installed}
+use Rattle.journal_model.specs.declared.entries.Entry.TheVariants.{Stopped, Restarted, Replied}
 use Rattle.journal_model.specs.declared.phase.Phase.{Phase}
 use Rattle.journal_model.specs.declared.phase.Phase.TheVariants.{Up, Down, Halted}
 use Rattle.journal_model.specs.declared.refusals.Facts.{Facts}
@@ -36,6 +40,8 @@ pub record Machine : Type 0 where
   -- the changes of the present timeline, the first `kept` of them durable
   pub log : List Change
   pub kept : ℕ
+  -- whose keys are in the key ring, in the order of installation
+  pub ring : List Owner
   -- the commands that began and got no reply, by number
   pub running : map.FinMap nat_cmp Running
 
@@ -44,7 +50,7 @@ no_running = map.empty
 
 -- as a journal begins
 abbrev pub first_machine : Machine
-first_machine = record { phase = Up; boot = 0; level = 1; log = []; kept = 0; running = no_running }
+first_machine = record { phase = Up; boot = 0; level = 1; log = []; kept = 0; ring = []; running = no_running }
 
 -- how many commands the actor began since the last restart, with one more entry
 abbrev pub count_after : Actor → ℕ → Entry → ℕ
@@ -119,8 +125,9 @@ after_entry before machine (Changed number change) = record machine {
       (λ running. map.insert machine.running number (with_change running change));
 }
 after_entry before machine Synced = record machine { kept = length machine.log }
+after_entry before machine (Installed user class) = record machine { ring = with_owner machine.ring user class }
 after_entry before machine (Stopped kept) =
-    record machine { phase = Halted; log = take kept machine.log; kept = kept; running = no_running }
+    record machine { phase = Halted; log = take kept machine.log; kept = kept; ring = []; running = no_running }
 after_entry before machine (Restarted boot level) = record machine { phase = Down; boot = boot; level = level }
 after_entry before machine (Replied number reply) = record machine {
   phase = if_running (map.get machine.running number) machine.phase
@@ -150,6 +157,15 @@ AllowsChange boot running (Create user) change =
     (running.changes ≡ []) × (change ≡ Created user (record { boot = boot; index = running.index }))
 AllowsChange boot running command change = ⊥
 
+-- a command makes this key of the user usable
+abbrev pub Installs : Command → ℕ → Class → Type 0
+Installs (Create owner) user class = owner ≡ user
+Installs Recover user class = ⊥
+
+-- the user's key of this class is in the key ring
+abbrev pub HasKey : Machine → ℕ → Class → Type 0
+HasKey machine user class = has_owner machine.ring user class ≡ true
+
 -- how a reply ends a command: it did its work, it was refused, or a device failed
 pub data ReplyKind : Type 0 where
   Success Refusal Fault : ReplyKind
@@ -159,14 +175,18 @@ kind_of_reply Done = Success
 kind_of_reply (Ended count) = Success
 kind_of_reply TreeFault = Fault
 kind_of_reply StoreFault = Fault
+kind_of_reply RingFault = Fault
 kind_of_reply reply = Refusal
 
--- what a reply tells that a command did its work, by which changes are logged and whose are durable, in this boot
-abbrev pub AllowsSuccess : (Change → Type 0) → (Option ℕ → Type 0) → ℕ → Running → Command → Reply → Type 0
-AllowsSuccess Logged Durable boot running (Create user) Done =
-    Logged (Created user (record { boot = boot; index = running.index })) × Durable (Some user)
-AllowsSuccess Logged Durable boot running Recover (Ended count) = (count ≡ 0) × Durable None
-AllowsSuccess Logged Durable boot running command reply = ⊥
+-- what a reply tells that a command did its work, by which changes are logged, whose are durable, and which keys are
+-- installed, in this boot
+abbrev pub AllowsSuccess : (Change → Type 0) → (Option ℕ → Type 0) → (ℕ → Class → Type 0) → ℕ → Running → Command
+    → Reply → Type 0
+AllowsSuccess Logged Durable Has boot running (Create user) Done =
+    Logged (Created user (record { boot = boot; index = running.index })) × Durable (Some user) × Has user De
+    × Has user Ce
+AllowsSuccess Logged Durable Has boot running Recover (Ended count) = (count ≡ 0) × Durable None
+AllowsSuccess Logged Durable Has boot running command reply = ⊥
 
 -- a command that wasn't refused may be told that a device failed, or that it did its work
 abbrev pub MayEnd : ReplyKind → Type 0 → Type 0
@@ -176,7 +196,8 @@ MayEnd Fault did = Unit {0}
 
 abbrev pub Succeeds : Machine → Running → Reply → Type 0
 Succeeds machine running reply =
-    AllowsSuccess (Contains machine.log) (IsDurable machine) machine.boot running running.command reply
+    AllowsSuccess (Contains machine.log) (IsDurable machine) (HasKey machine) machine.boot running running.command
+    reply
 
 abbrev pub AllowsReply : Machine → Running → Option Reply → Reply → Type 0
 AllowsReply machine running (Some verdict) reply = reply ≡ verdict
@@ -197,6 +218,9 @@ MayCome before machine (Changed number change) = IsSomeAnd (map.get machine.runn
     (λ running. (running.verdict ≡ None) × AllowsChange machine.boot running running.command change)
 MayCome before machine Synced =
     (number : ℕ) × IsSomeAnd (map.get machine.running number) (λ running. running.verdict ≡ None)
+MayCome before machine (Installed user class) = (map.contains_key (fold_changes machine.log) user ≡ true)
+    × ((number : ℕ) × IsSomeAnd (map.get machine.running number)
+    (λ running. (running.verdict ≡ None) × Installs running.command user class))
 MayCome before machine (Stopped kept) =
     (machine.phase ≢ Halted) × (machine.kept ≤ kept) × (kept ≤ length machine.log)
 MayCome before machine (Restarted boot level) =

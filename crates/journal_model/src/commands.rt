@@ -112,6 +112,8 @@ pub enum Reply {
     TreeFault,
     /// The keystore failed.
     StoreFault,
+    /// The key ring failed.
+    RingFault,
 }
 
 /// Why a command got no number.

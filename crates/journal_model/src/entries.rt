@@ -2,7 +2,7 @@ ghost use Rattle.std.specs.Prelude.{◌≡◌, IfOk};
 
 use crate::commands::{Actor, Command, Reply};
 use std::alloc::Global;
-use tree_model::{Cut, NoMemory};
+use tree_model::{Class, Cut, NoMemory};
 
 /// When a user was created: the boot, and the number of commands that the user's actor had begun in it before.
 #[derive(Clone, Copy, Debug, PartialEq, Eq)]
@@ -48,6 +48,11 @@ pub enum Entry {
     },
     /// The tree was synced: every change so far is durable.
     Synced,
+    /// The user's key of this class is in the key ring.
+    Installed {
+        user: u32,
+        class: Class,
+    },
     /// The machine stopped, and this number of changes survived.
     Stopped {
         kept: u64,
@@ -69,6 +74,7 @@ pub enum Entry {
 pub enum Device {
     Tree,
     Store,
+    Ring,
 }
 
 /// What was given to the machine from outside the script's actors.

@@ -28,7 +28,7 @@ of-self : (key : InstalledKey) → is_of key.user key.class key ≡ true
 of-self key = ap (λ t. t && same_class key.class key.class) (eq-eqb key.user key.user refl) ∙ class-same key.class
 
 -- and of no other
-of-exact : (user : ℕ) (class : Class) (key : InstalledKey) → is_of user class key ≡ true
+pub of-exact : (user : ℕ) (class : Class) (key : InstalledKey) → is_of user class key ≡ true
     → owner_of key ≡ (user, class)
 of-exact user class key is =
     let both = and_parts (user == key.user) (same_class class key.class) is in
@@ -36,7 +36,7 @@ of-exact user class key is =
 
 -- a ring by the user and class of a call
 module _ (user : ℕ) (class : Class) where
-  of-none : (key : InstalledKey) → is_of user class key ≡ false → owner_of key ≢ (user, class)
+  pub of-none : (key : InstalledKey) → is_of user class key ≡ false → owner_of key ≢ (user, class)
   of-none key isnt same =
       true≢false (sym (subst (λ owner. is_of owner.0 owner.1 key ≡ true) same (of-self key)) ∙ isnt)
 
@@ -60,7 +60,7 @@ module _ (user : ℕ) (class : Class) where
     abbrev new_key : InstalledKey
     new_key = record { user = user; class = class; key = key }
 
-    found-added : (ring : Ring) → key_of (installed ring user class key) user class ≡ Some key
+    pub found-added : (ring : Ring) → key_of (installed ring user class key) user class ≡ Some key
     found-added [] = ap (λ t. cond t (Some key) None) (of-self new_key)
     found-added (first ∷ ring) =
         elim (is_of user class first) as (λ t. is_of user class first ≡ t
@@ -71,7 +71,7 @@ module _ (user : ℕ) (class : Class) where
               ∙ found-added ring
         ] refl
 
-    others-added : (ring : Ring) (other : Owner) → other ≢ (user, class)
+    pub others-added : (ring : Ring) (other : Owner) → other ≢ (user, class)
         → key_of (installed ring user class key) other.0 other.1 ≡ key_of ring other.0 other.1
     others-added [] other differ =
         ap (λ t. cond t (Some key) None) (of-other new_key other differ (of-self new_key))

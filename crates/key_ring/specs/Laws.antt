@@ -1,8 +1,8 @@
 -- The laws of a key ring's calls: a ring stays one, what is found in it afterwards, and in which order.
-use Rattle.std.specs.Prelude.{◌≡◌, ◌≢◌, ℕ, not, List, [], ◌∷◌, ◌++◌, Some, None, IsSome}
+use Rattle.std.specs.Prelude.{◌≡◌, ◌≢◌, ℕ, not, List, [], ◌∷◌, ◌++◌, Some, None, IsSome, is_some}
 use Rattle.std.specs.List.{filter}
 use Rattle.tree_model.specs.declared.places.Class.{Class}
-use Rattle.key_ring.specs.Ring.{Owner, Ring, IsRing, is_of, key_of, owners, installed, removed}
+use Rattle.key_ring.specs.Ring.{Owner, Ring, IsRing, is_of, key_of, owners, has_owner, installed, removed, with_owner}
 
 -- an added key is found, and each other as before; it is last where none was there, and else each has its place
 pub record AfterAdd (ring : Ring) (user : ℕ) (class : Class) (key : List ℕ) : Type 0 where
@@ -27,3 +27,10 @@ pub record LawOfInstalled : Type 0 where
   pub empty : IsRing []
   pub after_add : (ring : Ring) (user : ℕ) (class : Class) (key : List ℕ) → IsRing ring → AfterAdd ring user class key
   pub after_remove : (ring : Ring) (user : ℕ) (class : Class) → IsRing ring → AfterRemove ring user class
+
+-- what is known of a ring by the users and classes of its keys alone: who has a key, and the order after an addition
+pub record LawOfOwners : Type 0 where
+  pub found : (ring : Ring) (user : ℕ) (class : Class)
+      → has_owner (owners ring) user class ≡ is_some (key_of ring user class)
+  pub added : (ring : Ring) (user : ℕ) (class : Class) (key : List ℕ)
+      → owners (installed ring user class key) ≡ with_owner (owners ring) user class

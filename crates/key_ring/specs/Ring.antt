@@ -26,9 +26,24 @@ same_class De Ce = false
 same_class Ce De = false
 same_class Ce Ce = true
 
+-- whether it is this user and class
+abbrev pub is_owner : ℕ → Class → Owner → Bool
+is_owner user class owner = (user == owner.0) && same_class class owner.1
+
 -- whether a key is that of a user and class
 abbrev pub is_of : ℕ → Class → InstalledKey → Bool
-is_of user class installed = (user == installed.user) && same_class class installed.class
+is_of user class installed = is_owner user class (owner_of installed)
+
+-- whether a user and class is one of these
+abbrev pub has_owner : List Owner → ℕ → Class → Bool
+has_owner [] user class = false
+has_owner (first ∷ all) user class = cond (is_owner user class first) true (has_owner all user class)
+
+-- these with a user and class where it was, or else last
+abbrev pub with_owner : List Owner → ℕ → Class → List Owner
+with_owner [] user class = (user, class) ∷ []
+with_owner (first ∷ all) user class =
+    cond (is_owner user class first) (first ∷ all) (first ∷ with_owner all user class)
 
 -- the key of a user and class
 abbrev pub key_of : Ring → ℕ → Class → Option (List ℕ)

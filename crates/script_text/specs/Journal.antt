@@ -4,13 +4,14 @@ use Rattle.std.specs.List.{flat_map}
 use Rattle.journal_model.specs.declared.commands.Command.{Command}
 use Rattle.journal_model.specs.declared.commands.Reply.{Reply}
 use Rattle.journal_model.specs.declared.commands.Reply.TheVariants.{Done, Ended, UserExists, Ready}
-use Rattle.journal_model.specs.declared.commands.Reply.TheVariants.{TreeFault, StoreFault}
+use Rattle.journal_model.specs.declared.commands.Reply.TheVariants.{TreeFault, StoreFault, RingFault}
 use Rattle.journal_model.specs.declared.entries.Change.{Change}
 use Rattle.journal_model.specs.declared.entries.Change.TheVariants.{Create as Created}
 use Rattle.journal_model.specs.declared.entries.Entry.{Entry}
-use Rattle.journal_model.specs.declared.entries.Entry.TheVariants.{Began, Changed, Synced, Stopped, Restarted, Replied}
+use Rattle.journal_model.specs.declared.entries.Entry.TheVariants.{Began, Changed, Synced, Installed}
+use Rattle.journal_model.specs.declared.entries.Entry.TheVariants.{Stopped, Restarted, Replied}
 use Rattle.script_text.specs.declared.script.Line.TheVariants.{Do}
-use Rattle.script_text.specs.Words.{decimal, actor_word, line_of}
+use Rattle.script_text.specs.Words.{decimal, actor_word, class_word, line_of}
 use Rattle.script_text.specs.Script.{line_words}
 
 -- a command, as the line of a script that gives it
@@ -29,12 +30,14 @@ reply_words UserExists = codes "user-exists" ∷ []
 reply_words Ready = codes "ready" ∷ []
 reply_words TreeFault = codes "tree-fault" ∷ []
 reply_words StoreFault = codes "store-fault" ∷ []
+reply_words RingFault = codes "ring-fault" ∷ []
 
 -- an entry: what happened, and its numbers
 abbrev pub entry_words : Entry → List (List ℕ)
 entry_words (Began number actor command) = codes "began" ∷ decimal number ∷ actor_word actor ∷ command_words command
 entry_words (Changed number change) = codes "changed" ∷ decimal number ∷ change_words change
 entry_words Synced = codes "synced" ∷ []
+entry_words (Installed user class) = codes "installed" ∷ decimal user ∷ class_word class ∷ []
 entry_words (Stopped kept) = codes "stopped" ∷ decimal kept ∷ []
 entry_words (Restarted boot level) = codes "restarted" ∷ decimal boot ∷ decimal level ∷ []
 entry_words (Replied number reply) = codes "replied" ∷ decimal number ∷ reply_words reply

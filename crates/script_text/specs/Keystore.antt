@@ -1,18 +1,11 @@
 -- A keystore as text: a line that tells its level and counts the entries, and one line for each.
 use Rattle.std.specs.Prelude.{ℕ, List, [], ◌∷◌, ◌++◌, length, map, codes}
 use Rattle.std.specs.List.{flat_map}
-use Rattle.tree_model.specs.declared.places.Class.{Class}
-use Rattle.tree_model.specs.declared.places.Class.TheVariants.{De, Ce}
 use Rattle.keystore_model.specs.declared.entry.Tag.{Tag}
 use Rattle.keystore_model.specs.declared.entry.StoreEntry.{StoreEntry}
 use Rattle.keystore_model.specs.Store.{Store}
 use Rattle.script_text.specs.declared.keystore_lines.EntryRow.{EntryRow}
-use Rattle.script_text.specs.Words.{decimal, bytes_word, line_of}
-
--- which of a user's two keys
-abbrev pub class_word : Class → List ℕ
-class_word De = codes "de"
-class_word Ce = codes "ce"
+use Rattle.script_text.specs.Words.{decimal, bytes_word, class_word, line_of}
 
 -- whose key an entry serves: the user and the class
 abbrev pub tag_words : Tag → List (List ℕ)

@@ -3,6 +3,7 @@ pub mod Forms
 pub mod Journal
 pub mod Keystore
 pub mod Reading
+pub mod Ring
 pub mod Script
 pub mod Shown
 pub mod Status

@@ -1,6 +1,8 @@
--- How numbers, bytes, actors and fills are spelled, and how words make a line.
+-- How numbers, bytes, actors, classes and fills are spelled, and how words make a line.
 use Rattle.std.specs.Prelude.{ℕ, ◌-◌, List, [], ◌∷◌, ◌++◌, length, map, replicate, codes}
 use Rattle.hex.specs.Hex.{encode_lower}
+use Rattle.tree_model.specs.declared.places.Class.{Class}
+use Rattle.tree_model.specs.declared.places.Class.TheVariants.{De, Ce}
 use Rattle.tree_model.specs.declared.ops.Fill.{Fill}
 use Rattle.tree_model.specs.declared.ops.Fill.TheVariants.{Same, Bytes}
 use Rattle.journal_model.specs.declared.commands.Actor.{Actor}
@@ -22,6 +24,11 @@ abbrev pub actor_word : Actor → List ℕ
 actor_word Boot = codes "boot"
 actor_word Cp = codes "cp"
 actor_word (User user) = decimal user
+
+-- which of a user's two keys
+abbrev pub class_word : Class → List ℕ
+class_word De = codes "de"
+class_word Ce = codes "ce"
 
 -- a fill: an equals sign for a write's own bytes, else the bytes
 abbrev pub fill_word : Fill → List ℕ

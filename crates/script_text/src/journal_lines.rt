@@ -5,7 +5,7 @@ ghost use Rattle.script_text.specs.Journal.{change_words, reply_words, entry_lin
 
 use crate::appending::{push_line_feed, push_text};
 use crate::script_lines::push_command;
-use crate::shown::{Row, Shown, number as small};
+use crate::shown::{Row, Shown, number as small, text_of_class};
 use journal_model::{Change, Entry, Reply};
 use std::alloc::Global;
 use tree_model::{Bytes, NoMemory};
@@ -43,6 +43,10 @@ fn push_entry(alloc: Global, out: &mut Vec<u8>, entry: &Entry) -> Result<(), NoM
             row_of_change(change).push_behind(alloc, out)?;
         }
         Entry::Synced => Row::alone(b"synced").push(alloc, out)?,
+        Entry::Installed { user, class } => {
+            let class = Shown::Text(text_of_class(*class));
+            Row::two(b"installed", small(*user), class).push(alloc, out)?;
+        }
         Entry::Stopped { kept } => Row::one(b"stopped", Shown::Number(*kept)).push(alloc, out)?,
         Entry::Restarted { boot, level } => {
             Row::two(b"restarted", Shown::Number(*boot), small(*level)).push(alloc, out)?;
@@ -76,5 +80,6 @@ fn row_of_reply(reply: Reply) -> Row<'static>
         Reply::Ready => Row::alone(b"ready"),
         Reply::TreeFault => Row::alone(b"tree-fault"),
         Reply::StoreFault => Row::alone(b"store-fault"),
+        Reply::RingFault => Row::alone(b"ring-fault"),
     }
 }

@@ -1,12 +1,12 @@
 //! Prints a keystore: its level, and each entry's name, level and tag.
 ghost use Rattle.std.specs.Prelude.{◌≡◌, ◌++◌, OnOk, IfOk};
-ghost use Rattle.script_text.specs.Keystore.{class_word, row_line, keystore_section};
+ghost use Rattle.script_text.specs.Keystore.{row_line, keystore_section};
 
 use crate::appending::{push_line_feed, push_word};
-use crate::shown::{Row, Shown, number};
+use crate::shown::{Row, Shown, number, text_of_class};
 use keystore_model::Tag;
 use std::alloc::Global;
-use tree_model::{Blob, Bytes, Class, NoMemory};
+use tree_model::{Blob, Bytes, NoMemory};
 
 /// What is printed of a keystore's entry.
 #[derive(Clone, Copy)]
@@ -41,13 +41,4 @@ fn push_row(alloc: Global, out: &mut Vec<u8>, row: &EntryRow) -> Result<(), NoMe
     Row::three(b"entry", Shown::Bytes(&blob), level, user).push(alloc, out)?;
     push_word(out, text_of_class(row.tag.class))?;
     push_line_feed(out)
-}
-
-fn text_of_class(class: Class) -> &'static [u8]
-    ensures { result.now ≡ class_word class }
-{
-    match class {
-        Class::De => b"de",
-        Class::Ce => b"ce",
-    }
 }

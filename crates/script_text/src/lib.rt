@@ -1,5 +1,5 @@
-//! The texts of a run: the script that it reads, the journal, the tree and the keystore that it prints, and the status
-//! that it ends with.
+//! The texts of a run: the script that it reads, the journal, the tree, the keystore and the key ring that it prints,
+//! and the status that it ends with.
 #![tactic(auto)]
 
 mod appending;
@@ -11,6 +11,7 @@ pub mod journal_lines;
 pub mod keystore_lines;
 pub mod numbers;
 mod reading;
+pub mod ring_lines;
 pub mod script;
 pub mod script_lines;
 mod shown;
@@ -21,6 +22,7 @@ pub use byte_words::bytes_of;
 pub use journal_lines::print_journal;
 pub use keystore_lines::{EntryRow, print_keystore};
 pub use numbers::number_of;
+pub use ring_lines::{KeyRow, print_ring};
 pub use script::{Line, Script, one_reading, read_script};
 pub use script_lines::print_script;
 pub use status::Status;

@@ -1,12 +1,12 @@
 //! Prints words: a line is its first word and what is shown behind it.
 ghost use Rattle.std.specs.Prelude.{◌≡◌, [], ◌∷◌, ◌++◌, OnOk};
-ghost use Rattle.script_text.specs.Words.{actor_word, fill_words, spaced, joined};
+ghost use Rattle.script_text.specs.Words.{actor_word, class_word, fill_words, spaced, joined};
 ghost use Rattle.script_text.specs.Shown.{shown_words, all_words, row_words};
 
 use crate::appending::{push_bytes, push_number, push_text, push_word};
 use journal_model::Actor;
 use std::alloc::Global;
-use tree_model::{Fill, NoMemory};
+use tree_model::{Class, Fill, NoMemory};
 
 /// What is printed as words.
 #[derive(Clone, Copy)]
@@ -30,6 +30,16 @@ pub fn number(number: u32) -> Shown<'static>
     ensures { result ≡ Shown.Number number }
 {
     Shown::Number(u64::from(number))
+}
+
+/// The word of a class.
+pub fn text_of_class(class: Class) -> &'static [u8]
+    ensures { result.now ≡ class_word class }
+{
+    match class {
+        Class::De => b"de",
+        Class::Ce => b"ce",
+    }
 }
 
 /// A word, and what is shown behind it.

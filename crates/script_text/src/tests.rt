@@ -1,7 +1,7 @@
 //! Texts that are printed and read, against texts from outside.
 use crate::{
-    EntryRow, Line, Script, Status, bytes_of, number_of, print_journal, print_keystore,
-    print_script, print_tree, read_script,
+    EntryRow, KeyRow, Line, Script, Status, bytes_of, number_of, print_journal, print_keystore,
+    print_ring, print_script, print_tree, read_script,
 };
 use journal_model::{Actor, Birth, Change, Command, Entry, Reply};
 use keystore_model::Tag;
@@ -19,9 +19,10 @@ const CREATED_TREE: &[u8] = b"tree 2\ndir de/10\nfile version 1 30\n\
      000000000000000000000000000000000000000000000000\n";
 
 const EVERY_ENTRY: &[u8] =
-    b"journal 12\nbegan 7 3 create 3\nbegan 8 cp create 4\nbegan 9 boot recover\nchanged 7 create 3 2 5\n\
-     synced\nstopped 1\nrestarted 3 2\nreplied 7 ok\nreplied 8 ok 12\nreplied 9 user-exists\n\
-     replied 10 ready\nreplied 18446744073709551615 tree-fault\n";
+    b"journal 14\nbegan 7 3 create 3\nbegan 8 cp create 4\nbegan 9 boot recover\nchanged 7 create 3 2 5\n\
+     synced\ninstalled 10 ce\nstopped 1\nrestarted 3 2\nreplied 7 ok\nreplied 8 ok 12\n\
+     replied 9 user-exists\nreplied 10 ready\nreplied 11 ring-fault\n\
+     replied 18446744073709551615 tree-fault\n";
 
 const EVERY_NAME: &[u8] =
     b"later 4 checkpoint 3\ndir de/0\nfile version 1 30\nfile encrypted_key 2 00ff\n\
@@ -35,6 +36,9 @@ const LONG_FILE: &[u8] = b"tree 1\ndir de/0\nfile secdiscardable 129 #b1f542f68a
 const KEYSTORE: &[u8] =
     b"keystore 2 2\nentry 0100000000000000000000000000000000000000000000000000000000000000 1 10 de\n\
      entry abababababababababababababababababababababababababababababababab 2 4294967295 ce\n";
+
+/// Of user 10 the key of 64 zeros, and of user 0 that of the bytes from 0 to 63.
+const RING: &[u8] = b"ring 2\nkey 10 ce f574a77464017311\nkey 0 de 04334e23057a6e2d\n";
 
 /// The most fills, the first with the most bytes.
 const FULL_STOP: &[u8] =
@@ -116,6 +120,10 @@ fn prints_every_entry(rt: HostRuntime) -> Result<(), Fail> {
         },
     })?;
     entries.push(Entry::Synced)?;
+    entries.push(Entry::Installed {
+        user: 10,
+        class: Class::Ce,
+    })?;
     entries.push(Entry::Stopped { kept: 1 })?;
     entries.push(Entry::Restarted { boot: 3, level: 2 })?;
     for (number, reply) in [
@@ -123,6 +131,7 @@ fn prints_every_entry(rt: HostRuntime) -> Result<(), Fail> {
         (8, Reply::Ended(12)),
         (9, Reply::UserExists),
         (10, Reply::Ready),
+        (11, Reply::RingFault),
         (u64::MAX, Reply::TreeFault),
     ] {
         entries.push(Entry::Replied { number, reply })?;
@@ -192,6 +201,25 @@ fn entry_row(blob: [u8; 32], level: u32, user: u32, class: Class) -> EntryRow {
         level,
         tag: Tag { user, class },
     }
+}
+
+#[test]
+fn prints_a_ring(rt: HostRuntime) -> Result<(), Fail> {
+    let keys = [
+        KeyRow {
+            user: 10,
+            class: Class::Ce,
+            reference: [0xf5, 0x74, 0xa7, 0x74, 0x64, 0x01, 0x73, 0x11],
+        },
+        KeyRow {
+            user: 0,
+            class: Class::De,
+            reference: [0x04, 0x33, 0x4e, 0x23, 0x05, 0x7a, 0x6e, 0x2d],
+        },
+    ];
+    let text = print_ring(rt.alloc(), &keys)?;
+    assert_eq!(rt; text.as_slice(), RING);
+    Ok(())
 }
 
 #[test]

@@ -25,7 +25,6 @@ use Rattle.user_world.specs.Facts.{HereAt, Holds}
 use Rattle.user_world.specs.Turns.{adds_local}
 use Rattle.user_world.proofs.OwnWorlds.{view-step}
 use Rattle.key_directory.specs.Shape.{version_bytes}
-use Rattle.key_directory.specs.Vaults.{Vault}
 use Rattle.store_task.specs.declared.turns.StoreSpec.{StoreSpec}
 use Rattle.store_task.specs.declared.turns.Doing.{Doing}
 use Rattle.store_task.specs.declared.turns.Doing.TheVariants.{Generate, Encrypt, Tree}
@@ -92,11 +91,11 @@ module _ (own : OwnWorld) (note : Option LocalChange) where
     renamed-temp = renamed-at Temp ∙ ap (λ t. cond t (Some files) None) (temp-off target away)
 
 -- how the key was sealed is no matter of the user's world
-pub sealing-stays : (spec : StoreSpec) (blob : Option Blob) (sealed : List ℕ) (vault : Vault) (own other : OwnWorld)
-    → Has (sealing spec blob sealed) (record { own = own; vault = vault })
-    → Has (sealing spec blob sealed) (record { own = other; vault = vault })
-sealing-stays spec None sealed vault own other has = has
-sealing-stays spec (Some blob) sealed vault own other has = has
+pub sealing-stays : (spec : StoreSpec) (blob : Option Blob) (sealed : List ℕ) (share : Share) (own : OwnWorld)
+    → Has (sealing spec blob sealed) share
+    → Has (sealing spec blob sealed) (record share { own = own })
+sealing-stays spec None sealed share own has = has
+sealing-stays spec (Some blob) sealed share own has = has
 
 module _ (task : Task) (next : Option Doing) where
   at_stage : (stage : Stage) → task.stage ≡ stage → (doing : Option Doing) → next ≡ doing
@@ -208,7 +207,7 @@ module _ (spec : StoreSpec) (job : ℕ) (blob : Option Blob) (sealed : List ℕ)
         answers = gets.lasts;
         falls = subst (λ p. left_in p < left_in progress) (sym gets.is) gets.falls;
         facts = (
-          sealing-stays spec blob sealed share.vault share.own (operated share op note).own facts.0,
+          sealing-stays spec blob sealed share (operated share op note).own facts.0,
           subst (λ p. InPlace p (operated share op note)) (sym gets.is) (leads share note facts.1),
         );
       };

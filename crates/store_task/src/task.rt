@@ -72,6 +72,13 @@ impl StoreTask {
         })
     }
 
+    /// The key that it stores.
+    pub fn key(&self) -> [u8; 64]
+        ensures { result ≡ self.now.spec.key }
+    {
+        self.spec.key
+    }
+
     /// How far its directory is.
     pub fn progress(&self) -> Progress
         ensures { result ≡ progress_of self.now.stage }

@@ -1,12 +1,12 @@
 -- The facts that a task rests on last until its next turn, as long as the entries of the blobs that it holds stay.
-use Rattle.std.proofs.Common.{ℕ, List, [], ◌∷◌, sym, ap, ◌∙◌}
-use Rattle.std.specs.Prelude.{Contains}
+use Rattle.std.proofs.Common.{ℕ, List, [], ◌∷◌, sym, ap, ◌∙◌, subst}
+use Rattle.std.specs.Prelude.{IsSome, Contains}
 use Rattle.tree_model.specs.declared.blobs.Blob.{Blob}
 use Rattle.journal_model.specs.Made.{key_of}
 use Rattle.keystore_model.specs.declared.entry.Tag.{Tag}
 use Rattle.user_world.proofs.Facts.{later-facts}
-use Rattle.task_turns.specs.Shares.{Share, ShareFact, Own, KeyFor, SealedFor, Same, Given, IsKeyFor, Has, AllHas}
-use Rattle.task_turns.specs.Shares.{LaterShare, IsHeld, AreHeld}
+use Rattle.task_turns.specs.Shares.{Share, ShareFact, Own, KeyFor, SealedFor, Same, Given, HasKey}
+use Rattle.task_turns.specs.Shares.{IsKeyFor, Has, AllHas, LaterShare, IsHeld, AreHeld}
 
 module _ (held : List Blob) (before after : Share) (later : LaterShare held before after) where
   abbrev key-lasts : (blob : Blob) (app_id : List ℕ) (tag : Tag) → Contains held blob
@@ -29,6 +29,7 @@ module _ (held : List Blob) (before after : Share) (later : LaterShare held befo
   fact-lasts (Same a b) is has = has
   fact-lasts (Given key class user birth) is has =
       has ∙ sym (ap (λ seed. key_of seed class user birth) later.seed)
+  fact-lasts (HasKey class) is has = subst (λ keys. IsSome (keys class)) (sym later.keys) has
 
 pub facts-last : (facts : List ShareFact) (held : List Blob) (before after : Share) → LaterShare held before after
     → AreHeld held facts → AllHas facts before → AllHas facts after

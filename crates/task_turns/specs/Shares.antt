@@ -1,5 +1,5 @@
--- A user's share of the tree and of the keystore, the facts that a task rests on there, and when they last.
-use Rattle.std.specs.Prelude.{◌≡◌, ℕ, List, [], ◌∷◌, Some, Contains}
+-- A user's share of the devices, the facts that a task rests on there, and when they last.
+use Rattle.std.specs.Prelude.{◌≡◌, ℕ, List, [], ◌∷◌, Option, Some, IsSome, Contains}
 use Rattle.tree_model.specs.declared.blobs.Blob.{Blob}
 use Rattle.tree_model.specs.declared.places.Class.{Class}
 use Rattle.journal_model.specs.declared.entries.Birth.{Birth}
@@ -15,6 +15,8 @@ use Rattle.key_directory.specs.Vaults.{Vault, KeepsEntry}
 pub record Share : Type 0 where
   pub own : OwnWorld
   pub vault : Vault
+  -- the user's keys in the ring
+  pub keys : Class → Option (List ℕ)
 
 pub data ShareFact : Type 0 where
   -- a fact on the user's own world
@@ -27,6 +29,8 @@ pub data ShareFact : Type 0 where
   Same : List ℕ → List ℕ → ShareFact
   -- these bytes are the key that a user of this birth was given
   Given : List ℕ → Class → ℕ → Birth → ShareFact
+  -- the user's key of this class is in the ring
+  HasKey : Class → ShareFact
 
 pub record IsKeyFor (vault : Vault) (blob : Blob) (app_id : List ℕ) (tag : Tag) : Type 0 where
   pub entry : StoreEntry
@@ -46,17 +50,19 @@ Has (KeyFor blob app_id tag) share = IsKeyFor share.vault blob app_id tag
 Has (SealedFor blob app_id tag nonce key sealed) share = IsSealedFor share.vault blob app_id tag nonce key sealed
 Has (Same a b) share = a ≡ b
 Has (Given key class user birth) share = key ≡ key_of share.vault.seed class user birth
+Has (HasKey class) share = IsSome (share.keys class)
 
 abbrev pub AllHas : List ShareFact → Share → Type 0
 AllHas [] share = Unit {0}
 AllHas (fact ∷ facts) share = Has fact share × AllHas facts share
 
--- between two turns of a task that holds these blobs, the user's world stays or is settled, the level and the seed
--- stay, and so do the entries of the blobs
+-- between two turns of a task that holds these blobs, the user's world stays or is settled, the level, the seed and
+-- the user's keys in the ring stay, and so do the entries of the blobs
 pub record LaterShare (held : List Blob) (before after : Share) : Type 0 where
   pub own : Later before.own after.own
   pub level : after.vault.level ≡ before.vault.level
   pub seed : after.vault.seed ≡ before.vault.seed
+  pub keys : after.keys ≡ before.keys
   pub kept : (blob : Blob) → Contains held blob → KeepsEntry before.vault after.vault blob
 
 -- the blob that a fact speaks of is held
@@ -66,6 +72,7 @@ IsHeld held (KeyFor blob app_id tag) = Contains held blob
 IsHeld held (SealedFor blob app_id tag nonce key sealed) = Contains held blob
 IsHeld held (Same a b) = Unit {0}
 IsHeld held (Given key class user birth) = Unit {0}
+IsHeld held (HasKey class) = Unit {0}
 
 abbrev pub AreHeld : List Blob → List ShareFact → Type 0
 AreHeld held [] = Unit {0}

@@ -1,13 +1,18 @@
--- The turns of a user's task over its share of both devices, and what the task has to show of each.
-use Rattle.std.specs.Prelude.{◌⊎◌, ◌≡◌, Bool, true, false, ℕ, ◌+◌, ◌<◌, ◌≤◌, List, [], ◌∷◌, ◌++◌}
-use Rattle.std.specs.Prelude.{length, Option, Some, None, IfSome, Contains}
+-- The turns of a user's task over its share of the devices, and what the task has to show of each.
+use Rattle.std.specs.Prelude.{◌⊎◌, ◌≡◌, Bool, true, false, cond, ℕ, ◌+◌, ◌<◌, ◌≤◌, List, [], ◌∷◌, ◌++◌}
+use Rattle.std.specs.Prelude.{length, Option, Some, None, IfSome, IsSome, Contains}
 use Rattle.tree_model.specs.declared.blobs.Blob.{Blob}
+use Rattle.tree_model.specs.declared.places.Class.{Class}
 use Rattle.tree_model.specs.declared.sites.LocalOp.{LocalOp}
+use Rattle.key_ring.specs.Ring.{same_class}
 use Rattle.seal_model.specs.Sealed.{sealed_text}
 use Rattle.journal_model.specs.declared.commands.Actor.TheVariants.{User}
 use Rattle.journal_model.specs.declared.commands.Reply.{Reply}
 use Rattle.journal_model.specs.Command.{actor_of}
+use Rattle.journal_model.specs.Made.{key_of}
+use Rattle.journal_model.specs.Users.{Record}
 use Rattle.journal_model.specs.Machine.{Running as Began, kind_of_reply, Success, AllowsChange}
+use Rattle.journal_model.specs.Machine.{AllowsSuccess, Installs}
 use Rattle.keystore_model.specs.declared.entry.StoreEntry.{StoreEntry}
 use Rattle.keystore_model.specs.declared.entry.Tag.{Tag}
 use Rattle.keystore_model.specs.Store.{entry_of}
@@ -16,14 +21,14 @@ use Rattle.step_core.specs.Jobs.{output_of}
 use Rattle.blob_custody.specs.Steps.{LetsGo}
 use Rattle.user_world.specs.declared.changes.LocalChange.{LocalChange}
 use Rattle.user_world.specs.Changes.{change_of}
-use Rattle.user_world.specs.OwnWorlds.{own_view, with_step, settled}
-use Rattle.user_world.specs.Turns.{StepShows, OwnSucceeds, with_note, adds_local, takes_local}
+use Rattle.user_world.specs.OwnWorlds.{own_view, own_record, with_step, settled}
+use Rattle.user_world.specs.Turns.{StepShows, IsLogged, AreDurable, with_note, adds_local, takes_local}
 use Rattle.key_directory.specs.Vaults.{sealed}
 use Rattle.task_turns.specs.declared.calls.Answer.{Answer}
 use Rattle.task_turns.specs.declared.calls.Answer.TheVariants.{Done, Blob as IsBlob, Sealed, Output}
 use Rattle.task_turns.specs.declared.calls.Call.{Call}
 use Rattle.task_turns.specs.declared.calls.Call.TheVariants.{Op, Sync, List as ListCall, Read}
-use Rattle.task_turns.specs.declared.calls.Call.TheVariants.{Generate, Encrypt, Entries}
+use Rattle.task_turns.specs.declared.calls.Call.TheVariants.{Generate, Encrypt, Entries, Add}
 use Rattle.task_turns.specs.declared.next.Next.{Next}
 use Rattle.task_turns.specs.declared.next.Next.TheVariants.{Call as CallNext, Work as WorkNext, Reply as ReplyNext}
 use Rattle.task_turns.specs.Names.{Gains, BringsBlob}
@@ -126,6 +131,12 @@ with_entry share blob tag app_id key = record share {
   };
 }
 
+-- and with a key of the user's in the ring
+abbrev pub with_key : Share → Class → List ℕ → Share
+with_key share class key = record share {
+  keys = λ other. cond (same_class other class) (Some key) (share.keys other);
+}
+
 -- an operation on the task's own user's places may be made and makes the change that it notes; what it makes the
 -- user's directories name was held, and is let go
 pub record OpShows {T : Type 0} (tasks : Tasks T) (task : T) (scene : Scene) (owner : ℕ) (op : LocalOp)
@@ -178,6 +189,22 @@ pub record EncryptShows {T : Type 0} (tasks : Tasks T) (task : T) (scene : Scene
       ≡ (tasks.rest_of task).held
   pub leads : Leads tasks task (Sealed (sealed_text under.entry.key nonce key)) scene None no_cost scene.share
 
+-- the user is there, and the key of this class is the one that the user was given
+pub record IsGiven (share : Share) (user : ℕ) (class : Class) (key : List ℕ) : Type 0 where
+  pub known : Record
+  pub there : own_record share.own ≡ Some known
+  pub given : key ≡ key_of share.vault.seed class user known.birth
+
+-- a key that the task's user was given comes into the ring
+pub record AddShows {T : Type 0} (tasks : Tasks T) (task : T) (scene : Scene) (owner : ℕ) (class : Class)
+    (key : List ℕ) (change : Option LocalChange) : Type 0 where
+  pub quiet : change ≡ None
+  pub mine : owner ≡ (tasks.rest_of task).user
+  pub given : IsGiven scene.share (tasks.rest_of task).user class key
+  pub may : Installs scene.began.command (tasks.rest_of task).user class
+  pub held : (tasks.rest_of (tasks.after task Done)).held ≡ (tasks.rest_of task).held
+  pub leads : Leads tasks task Done scene None no_cost (with_key scene.share class key)
+
 -- the call may be made, keeps every image, and leads to what the task rests on then; a user's task lists and reads
 -- nothing
 abbrev pub CallStands : {T : Type 0} → Tasks T → T → Scene → Call → Option LocalChange → Type 0
@@ -186,6 +213,7 @@ CallStands tasks task scene Sync change = SyncShows tasks task scene change
 CallStands tasks task scene (Generate tag app_id) change = GenerateShows tasks task scene tag app_id change
 CallStands tasks task scene (Encrypt blob app_id nonce key) change =
     (change ≡ None) × EncryptShows tasks task scene blob app_id nonce key
+CallStands tasks task scene (Add owner class key) change = AddShows tasks task scene owner class key change
 CallStands tasks task scene ListCall change = ⊥
 CallStands tasks task scene (Read place) change = ⊥
 CallStands tasks task scene Entries change = ⊥
@@ -204,10 +232,20 @@ pub record WorkShows {T : Type 0} (tasks : Tasks T) (task : T) (scene : Scene) (
   pub held : (tasks.rest_of (tasks.after task (Output (output_of job.input)))).held ≡ (tasks.rest_of task).held
   pub leads : Leads tasks task (Output (output_of job.input)) scene None no_cost scene.share
 
+-- the user's key of this class is in the ring
+abbrev pub KeyIsIn : ℕ → Share → ℕ → Class → Type 0
+KeyIsIn user share owner class = (owner ≡ user) × IsSome (share.keys class)
+
+-- the command did its work, by its user's share
+abbrev pub Succeeds : ℕ → ℕ → Began → Share → Reply → Type 0
+Succeeds user boot began share reply =
+    AllowsSuccess (IsLogged user share.own) (AreDurable user share.own) (KeyIsIn user share) boot began began.command
+    reply
+
 -- and of a reply: it tells that the command did its work, and that it holds no blob
 pub record ReplyShows {T : Type 0} (tasks : Tasks T) (task : T) (scene : Scene) (reply : Reply) : Type 0 where
   pub success : kind_of_reply reply ≡ Success
-  pub may : OwnSucceeds (tasks.rest_of task).user scene.boot scene.began scene.share.own reply
+  pub may : Succeeds (tasks.rest_of task).user scene.boot scene.began scene.share reply
   pub lasts : 0 < (tasks.rest_of task).left
   pub held : (tasks.rest_of task).held ≡ []
 

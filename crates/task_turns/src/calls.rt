@@ -1,6 +1,6 @@
 use keystore_model::Tag;
 use step_core::JobOutput;
-use tree_model::{Blob, Bytes, LocalOp, Place};
+use tree_model::{Blob, Bytes, Class, LocalOp, Place};
 
 /// A counted call of a device, as a task names it.
 #[derive(Drop)]
@@ -32,6 +32,12 @@ pub enum Call {
     },
     /// A list of the keystore's entries.
     Entries,
+    /// The ring gets a user's key.
+    Add {
+        user: u32,
+        class: Class,
+        key: [u8; 64],
+    },
 }
 
 /// What a task hears of what it did.

@@ -1,7 +1,7 @@
 -- Operations of a user's command that no standing directory feels: those in the temporary directory, and the removal
 -- of what a failed create left.
 use Rattle.std.proofs.Common.{◌≡◌, ◌≢◌, ℕ, true, false, List, [], refl, sym, ap, ◌∙◌, subst, inl, inr}
-use Rattle.std.specs.Prelude.{◌||◌, Option, None, Contains}
+use Rattle.std.specs.Prelude.{◌||◌, Option, None}
 use Rattle.tree_model.specs.declared.blobs.Blob.{Blob}
 use Rattle.tree_model.specs.declared.ops.Fill.TheVariants.{Same}
 use Rattle.tree_model.specs.declared.places.Slot.{Slot}

@@ -1,5 +1,5 @@
--- Each turn of a create shows what it has to.
-use Rattle.std.proofs.Common.{◌≡◌, ◌≢◌, ℕ, List, [], ◌∷◌, ◌++◌, refl, sym, ap, ◌∙◌, subst, arith, inl, inr}
+-- Each turn of a create shows what it has to, up to the one that makes its user.
+use Rattle.std.proofs.Common.{◌≡◌, ◌≢◌, ℕ, List, [], ◌∷◌, ◌++◌, refl, sym, ap, ◌∙◌, subst, arith, inl}
 use Rattle.std.specs.Prelude.{false, Option, Some, None, is_some, Result, Ok, Err, IfOk}
 use Rattle.tree_model.specs.declared.blobs.Blob.{Blob}
 use Rattle.tree_model.specs.declared.places.Class.TheVariants.{De as ForDe, Ce as ForCe}
@@ -12,21 +12,18 @@ use Rattle.tree_model.specs.declared.sites.LocalOp.TheVariants.{RenameDir, Remov
 use Rattle.tree_model.specs.Sites.{site_of, touches}
 use Rattle.tree_model.specs.Tree.{kind_if, Drop as DropKind}
 use Rattle.keystore_model.specs.declared.entry.Tag.{Tag}
-use Rattle.journal_model.specs.declared.commands.Reply.TheVariants.{Done as DoneReply}
 use Rattle.journal_model.specs.declared.entries.Birth.{Birth}
-use Rattle.journal_model.specs.Machine.{AllowsSuccess}
 use Rattle.user_world.specs.declared.changes.LocalChange.{LocalChange}
 use Rattle.user_world.specs.declared.changes.LocalChange.TheVariants.{Born}
 use Rattle.user_world.specs.OwnWorlds.{OwnWorld, quiet, own_view, OwnImagesStand}
-use Rattle.user_world.specs.Facts.{Logged, Holds}
-use Rattle.user_world.specs.Turns.{IsLogged, AreDurable, StepShows}
+use Rattle.user_world.specs.Turns.{StepShows}
 use Rattle.user_world.proofs.OwnWorlds.{keeps-absent, absent-view}
-use Rattle.user_world.proofs.Facts.{later-facts, knows-step}
+use Rattle.user_world.proofs.Facts.{knows-step}
 use Rattle.key_directory.specs.Vaults.{sealed}
 use Rattle.task_turns.specs.declared.calls.Answer.{Answer}
 use Rattle.task_turns.specs.declared.calls.Answer.TheVariants.{Done, Blob as IsBlob, Sealed, Output}
 use Rattle.task_turns.specs.declared.calls.Call.TheVariants.{Op as OpCall, Sync as SyncCall, List as ListCall, Read}
-use Rattle.task_turns.specs.declared.calls.Call.TheVariants.{Generate, Encrypt, Entries}
+use Rattle.task_turns.specs.declared.calls.Call.TheVariants.{Generate, Encrypt, Entries, Add}
 use Rattle.task_turns.specs.declared.next.Next.{Next}
 use Rattle.task_turns.specs.declared.next.Next.TheVariants.{Call as CallNext, Work as WorkNext, Reply as ReplyNext}
 use Rattle.task_turns.specs.Names.{Gains}
@@ -44,7 +41,7 @@ use Rattle.store_task.specs.Turns.{TreeShows, PutsInPlace}
 use Rattle.store_task.proofs.HeldBlobs.{sealing-held}
 use Rattle.store_task.proofs.ShownTurns.{off-temp, sealing-stays}
 use Rattle.user_tasks.specs.declared.creates.Stage.{Stage}
-use Rattle.user_tasks.specs.declared.creates.Stage.TheVariants.{Clearing, StoringCe, StoringDe, Created, Ended}
+use Rattle.user_tasks.specs.declared.creates.Stage.TheVariants.{Clearing, StoringCe, StoringDe}
 use Rattle.user_tasks.specs.Clearing.{IsNextToClear}
 use Rattle.user_tasks.specs.Create.{Creating, Stores, IsStage, IsCreating, IsCreate, create_rest, rest_at}
 use Rattle.user_tasks.specs.Create.{ce_frame, de_frame}
@@ -85,7 +82,7 @@ sealed-stays spec First share own has = has
 sealed-stays spec (Tied app_id) share own has = has
 sealed-stays spec (Generated app_id blob) share own has = has
 sealed-stays spec (Storing blob text progress) share own has =
-    sealing-stays spec blob text share.vault share.own own has
+    sealing-stays spec blob text share own has
 
 sealed-held : (spec : StoreSpec) (stage : StoreStage) → IsHeld (held_at stage) (sealed_at spec stage)
 sealed-held spec First = tt
@@ -277,6 +274,7 @@ module _ (user : ℕ) (birth : Birth) (ce de : Task) (scene : Scene) where
       lasts = shows.lasts;
     }
     as-cleared (CallNext Entries change) shows = absurd shows.stands
+    as-cleared (CallNext (Add owner class key) change) shows = absurd (not-done shows.stands.leads.hears)
     as-cleared (WorkNext job) shows = record {
       held = shows.held ∙ ap held_at first;
       leads = leads-cleared (Output _) None _ _ shows.leads.hears refl shows.leads;
@@ -296,7 +294,7 @@ module _ (create : Creating) (is : IsCreating create) (way : Option Site) where
   abbrev pub staged : Stage → Creating
   staged stage = record create { stage = stage }
 
-  at-stage : (stage : Stage) (next : Next) → create.stage ≡ stage → UserTurns (staged stage) way next
+  pub at-stage : (stage : Stage) (next : Next) → create.stage ≡ stage → UserTurns (staged stage) way next
       → UserTurns create way next
   at-stage stage next here turns = subst (λ s. UserTurns (staged s) way next) (sym here) turns
 
@@ -416,48 +414,6 @@ module _ (create : Creating) (is : IsCreating create) (way : Option Site) where
       (λ scene images clear rests.
       de-shows create.user create.birth create.ce create.de is.ce is.de scene (stage-fits StoringDe here).0 rests.facts
       rests.serves next turn)
-
-  -- the sync behind the last rename
-  pub sync-turn : (next : Next) → create.stage ≡ Created → next ≡ CallNext SyncCall None → UserTurns create way next
-  sync-turn next here named = subst (UserTurns create way) (sym named) (at-stage Created (CallNext SyncCall None) here
-      (λ scene images clear rests. record {
-        stands = record {
-          quiet = refl;
-          held = refl;
-          leads = leads-to creates (staged Created) Done refl refl refl (record {
-            facts = (
-              (later-facts (Logged (Born create.birth) ∷ []) scene.share.own _ (inr refl) (rests.facts.0, tt)).0,
-              (refl, tt),
-            );
-            known = (tt, (tt, tt));
-            serves = record {
-              command = rests.serves.command;
-              born = rests.serves.born;
-              changes = rests.serves.changes;
-            };
-            same_user = refl;
-            falls = omega arith;
-            makes = omega arith;
-            draws = omega arith;
-          });
-        };
-        may = tt;
-        lasts = omega arith;
-      }))
-
-  pub reply-turn : create.stage ≡ Ended → UserTurns create way (ReplyNext DoneReply)
-  reply-turn here = at-stage Ended (ReplyNext DoneReply) here
-      (λ scene images clear rests. record {
-        success = refl;
-        may = subst (λ command. AllowsSuccess (IsLogged create.user scene.share.own)
-            (AreDurable create.user scene.share.own) scene.boot scene.began command DoneReply)
-            (sym rests.serves.command) (
-              (refl, subst (λ birth. Holds (Logged (Born birth)) scene.share.own) rests.serves.born rests.facts.0),
-              (refl, rests.facts.1.0),
-            );
-        lasts = omega arith;
-        held = refl;
-      })
 
 -- an answer that takes memory
 pub turns-given : {E : Type 0} (P Q : Next → Type 0) (result : Result Next E) → IfOk result P

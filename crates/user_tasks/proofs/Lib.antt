@@ -4,6 +4,7 @@ mod AsideOps
 mod Writing
 mod Placing
 mod CreateTurns
+mod Installing
 mod AskedJobs
 mod JobNumbers
 mod Begun

@@ -15,7 +15,6 @@ use Rattle.tree_model.specs.Named.{named_at, PartNames}
 use Rattle.tree_model.specs.Parts.{Part, standing, after_local}
 use Rattle.journal_model.specs.declared.entries.Birth.{Birth}
 use Rattle.journal_model.specs.Made.{key_of}
-use Rattle.journal_model.specs.Users.{Record, new_secrets}
 use Rattle.keystore_model.specs.declared.entry.StoreEntry.{StoreEntry}
 use Rattle.keystore_model.specs.declared.entry.Tag.{Tag}
 use Rattle.user_world.specs.declared.changes.LocalChange.TheVariants.{Born}
@@ -34,6 +33,7 @@ use Rattle.task_turns.specs.Names.{Gains}
 use Rattle.task_turns.specs.Shares.{Share, Has, Given}
 use Rattle.store_task.specs.Task.{Task, IsTask, IsBoundBy, all_files, sealing}
 use Rattle.store_task.proofs.StoredFiles.{files-open, files-named, names-own}
+use Rattle.user_tasks.specs.Create.{new_record}
 use Rattle.user_tasks.specs.Stores.{part}
 use Rattle.user_tasks.proofs.Whole.{same-parts}
 
@@ -85,9 +85,6 @@ module _ {share : Share} {user : ℕ} {birth : Birth} {ce de : Task} (ce_kept : 
   abbrev both : Part
   both = part (Some (kept_files ce_kept)) (Some (kept_files de_kept))
 
-  abbrev known : Record
-  known = record { birth = birth; secrets = new_secrets }
-
   classes-apart : tag_at user De ≡ tag_at user (Ce Current) → ⊥
   classes-apart e = let same : ForDe ≡ ForCe = ap (λ (tag : Tag). tag.class) e in cc
 
@@ -102,8 +99,8 @@ module _ {share : Share} {user : ℕ} {birth : Birth} {ce de : Task} (ce_kept : 
   }
 
   -- both directories, renamed into place, stand for the new user
-  pub born : PartStands (sealed share.vault) user (after_local both (RenameDir Temp De)) (Some known)
-  born = subst (λ p. SealedStands share.vault user p known)
+  pub born : PartStands (sealed share.vault) user (after_local both (RenameDir Temp De)) (Some (new_record birth))
+  born = subst (λ p. SealedStands share.vault user p (new_record birth))
       (same-parts (two_directories (kept_files de_kept) (kept_files ce_kept))
       (standing (after_local both (RenameDir Temp De))) refl refl (λ n. refl) refl)
       (births-stand share.vault user birth (kept_files de_kept) (kept_files ce_kept) open-both)
@@ -121,9 +118,10 @@ module _ {share : Share} {user : ℕ} {birth : Birth} {ce de : Task} (ce_kept : 
     pub keeps-born : Keeps (sealed share.vault) user own (record { op = RenameDir Temp De; note = Some (Born birth) })
     keeps-born = record {
       keeps = λ left fill is stands.
-          subst (λ op. PartStands (sealed share.vault) user (after_local left op) (Some known))
+          subst (λ op. PartStands (sealed share.vault) user (after_local left op) (Some (new_record birth)))
           (sym (whole-rename Temp De fill))
-          (subst (λ p. PartStands (sealed share.vault) user (after_local p (RenameDir Temp De)) (Some known))
+          (subst
+          (λ p. PartStands (sealed share.vault) user (after_local p (RenameDir Temp De)) (Some (new_record birth)))
           (sym (always left is)) born);
     }
 

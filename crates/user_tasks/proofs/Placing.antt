@@ -233,8 +233,14 @@ module _ (user : ℕ) (birth : Birth) (ce_spec de_spec : StoreSpec) (ce_job de_j
           lets_go = lets-all (ce_blob ∷ de_blob ∷ []);
           held = inr refl;
           leads = leads-to creates putting_de Done (λ e. cc) refl refl (record {
-            facts = (logged-step scene.share.own put_de (Born birth), tt);
-            known = (tt, tt);
+            facts = (
+              logged-step scene.share.own put_de (Born birth),
+              (
+                knows-step scene.share.own (record { op = put_de; note = Some (Born birth) }) None has.0,
+                (has.1.1.0, (has.1.0, tt)),
+              ),
+            );
+            known = (tt, (tt, (tt, (tt, tt))));
             serves = record {
               command = serves.command;
               born = serves.born;

@@ -1,7 +1,8 @@
 -- Scenes that refute wrong plans.
 use Rattle.std.proofs.Common.{◌≡◌, cond, List, [], ◌∷◌, length, refl, sym, ap, ◌∙◌, subst, inl, inr}
 use Rattle.std.specs.Prelude.{Some, None, Contains}
-use Rattle.std.proofs.lemmas.Option.{none-some}
+use Rattle.std.proofs.lemmas.Bool.{false≢true}
+use Rattle.std.proofs.lemmas.Option.{none-some, same_Some}
 use Rattle.tree_model.specs.declared.blobs.Blob.{Blob}
 use Rattle.tree_model.specs.declared.places.Class.{Class}
 use Rattle.tree_model.specs.declared.places.Class.TheVariants.{De as ForDe, Ce as ForCe}
@@ -12,7 +13,7 @@ use Rattle.tree_model.specs.Parts.{Part, after_local}
 use Rattle.journal_model.specs.declared.commands.Command.TheVariants.{Create as CreateCommand}
 use Rattle.journal_model.specs.Made.{made, key_of, nonce_of, discardable_of}
 use Rattle.journal_model.specs.Hashes.{app_id_of}
-use Rattle.journal_model.specs.Users.{new_secrets}
+use Rattle.journal_model.specs.Users.{Record}
 use Rattle.journal_model.proofs.Streams.{length-stream_bytes}
 use Rattle.keystore_model.specs.declared.entry.StoreEntry.{StoreEntry}
 use Rattle.keystore_model.specs.Store.{entry_of}
@@ -20,7 +21,7 @@ use Rattle.keystore_model.proofs.Elements.{Contains-none, Contains-first, Contai
 use Rattle.keystore_model.proofs.Stores.{bytes-same, bytes-apart}
 use Rattle.user_world.specs.declared.changes.LocalChange.TheVariants.{Born}
 use Rattle.user_world.specs.Meaning.{PartStands}
-use Rattle.user_world.specs.OwnWorlds.{OwnWorld, OwnImagesStand}
+use Rattle.user_world.specs.OwnWorlds.{OwnWorld, OwnImagesStand, settled}
 use Rattle.blob_custody.proofs.Renamings.{whole-rename}
 use Rattle.key_directory.specs.Vaults.{Vault, sealed}
 use Rattle.task_turns.specs.Shares.{IsSealedFor}
@@ -30,11 +31,12 @@ use Rattle.store_task.specs.declared.stages.Progress.TheVariants.{Settled, Store
 use Rattle.store_task.specs.Task.{IsTask, all_files}
 use Rattle.store_task.proofs.StoredFiles.{files-named}
 use Rattle.user_tasks.specs.declared.creates.Stage.{Stage}
-use Rattle.user_tasks.specs.declared.creates.Stage.TheVariants.{StoringDe, Created}
-use Rattle.user_tasks.specs.Create.{create_rest, changes_at}
+use Rattle.user_tasks.specs.declared.creates.Stage.TheVariants.{StoringDe, Created, InstallingDe}
+use Rattle.user_tasks.specs.Create.{new_record, create_rest, changes_at}
 use Rattle.user_tasks.specs.Stores.{part}
 use Rattle.user_tasks.specs.WrongPlans.{Plan, spec_of, text_of, blob_of, task_at, create_at, RepliesBeforeSync}
 use Rattle.user_tasks.specs.WrongPlans.{LeavesOutDevice, HidesChange, HidesBlob, TouchesOther}
+use Rattle.user_tasks.specs.WrongPlans.{RepliesBeforeKeys, InstallsOther}
 use Rattle.user_tasks.proofs.NewUsers.{IsKept, born}
 
 module _ (plan : Plan) where
@@ -93,7 +95,7 @@ module _ (plan : Plan) where
       changes = changes_at stage plan.user plan.birth;
       index = plan.birth.index;
     };
-    share = record { own = own; vault = vault };
+    share = record { own = own; vault = vault; keys = λ class. None };
   }
 
   -- nothing is pending, and the device key's directory was synced
@@ -174,8 +176,23 @@ module _ (plan : Plan) where
     of_user = refl;
     accepted = refl;
     serves = record { command = refl; born = refl; changes = refl };
-    facts = (Contains-first (Born plan.birth) [], tt);
-    known = (tt, tt);
+    facts = (Contains-first (Born plan.birth) [], (refl, (refl, (refl, tt))));
+    known = (tt, (tt, (tt, (tt, tt))));
+    owned = λ blob none. absurd (Contains-none blob none);
+  }
+
+  -- and then it is durable, and no key is in the ring
+  abbrev lasting_birth : OwnWorld
+  lasting_birth = settled pending_birth
+
+  installing-rests : Rests (create_rest (create_at plan Stored InstallingDe)) plan.birth.boot
+      (scene_at InstallingDe lasting_birth).began (scene_at InstallingDe lasting_birth).share
+  installing-rests = record {
+    of_user = refl;
+    accepted = refl;
+    serves = record { command = refl; born = refl; changes = refl };
+    facts = (Contains-first (Born plan.birth) [], (refl, (refl, (refl, (refl, tt)))));
+    known = (tt, (tt, (tt, (tt, (tt, tt)))));
     owned = λ blob none. absurd (Contains-none blob none);
   }
 
@@ -230,9 +247,12 @@ module _ (plan : Plan) where
   created-stands = (
     refl,
     λ fill. subst (λ op. PartStands (sealed vault) plan.user (after_local both_in op)
-        (Some (record { birth = plan.birth; secrets = new_secrets }))) (sym (whole-rename Temp De fill))
+        (Some (new_record plan.birth))) (sym (whole-rename Temp De fill))
         (born (kept-for ForCe) (kept-for ForDe)),
   )
+
+  lasting-stands : OwnImagesStand (sealed vault) plan.user lasting_birth
+  lasting-stands = born (kept-for ForCe) (kept-for ForDe)
 
 no-cons : {A : Type 0} (x : A) (xs : List A) → x ∷ xs ≡ [] → ⊥
 no-cons x xs e = cc
@@ -261,3 +281,15 @@ hides-blob plan turns =
 pub touches-other : TouchesOther
 touches-other plan other apart turns =
     apart (turns (scene_at plan StoringDe (still plan)) refl (tt, refl) (settled-rests plan)).stands.mine
+
+pub replies-before-keys : RepliesBeforeKeys
+replies-before-keys plan turns =
+    let shows = turns (scene_at plan InstallingDe (lasting_birth plan)) (lasting-stands plan) (tt, refl)
+    (installing-rests plan) in false≢true shows.may.2.1
+
+pub installs-other : InstallsOther
+installs-other plan key differ turns =
+    let given = (turns (scene_at plan InstallingDe (lasting_birth plan)) (lasting-stands plan) (tt, refl)
+    (installing-rests plan)).stands.given in
+    differ (given.given
+    ∙ sym (ap (λ (known : Record). key_of plan.seed ForDe plan.user known.birth) (same_Some _ _ given.there)))

@@ -25,7 +25,7 @@ use Rattle.task_turns.specs.declared.calls.Answer.{Answer}
 use Rattle.task_turns.specs.declared.calls.Answer.TheVariants.{Done, Blob as IsBlob, Sealed, Output}
 use Rattle.task_turns.specs.declared.calls.Call.TheVariants.{Op as OpCall, Sync as SyncCall}
 use Rattle.task_turns.specs.Shares.{Share, ShareFact, AllHas, LaterShare, IsHeld, AreHeld}
-use Rattle.task_turns.specs.Shares.{Own, KeyFor, SealedFor, Same, Given}
+use Rattle.task_turns.specs.Shares.{Own, KeyFor, SealedFor, Same, Given, HasKey}
 use Rattle.task_turns.specs.Turns.{Rest, Tasks, Scene, Cost, no_cost, operated, synced, with_entry, Leads}
 use Rattle.task_turns.specs.Turns.{CallShows, GenerateShows, EncryptShows, WorkShows, TurnShows}
 use Rattle.task_turns.proofs.Lasting.{facts-last}
@@ -70,6 +70,7 @@ held-fact held more among (KeyFor blob app_id tag) is = among blob is
 held-fact held more among (SealedFor blob app_id tag nonce key text) is = among blob is
 held-fact held more among (Same a b) is = tt
 held-fact held more among (Given key class user birth) is = tt
+held-fact held more among (HasKey class) is = tt
 
 held-more : (held more : List Blob) → ((blob : Blob) → Contains held blob → Contains more blob)
     → (facts : List ShareFact) → AreHeld held facts → AreHeld more facts
@@ -169,7 +170,7 @@ settled-goes_on progress is e = let same : Settled ≡ Stored = sym is ∙ e in 
 -- a sync and a further entry leave a share that is later
 later-synced : (held : List Blob) (share : Share) → LaterShare held share (synced share)
 later-synced held share =
-    record { own = inr refl; level = refl; seed = refl; kept = λ blob has entry live. live }
+    record { own = inr refl; level = refl; seed = refl; keys = refl; kept = λ blob has entry live. live }
 
 later-entered : (held : List Blob) (share : Share) (blob : Blob) (tag : Tag) (app_id key : List ℕ)
     → entry_of share.vault.entries blob ≡ None → LaterShare held share (with_entry share blob tag app_id key)
@@ -177,6 +178,7 @@ later-entered held share blob tag app_id key none = record {
   own = inl refl;
   level = refl;
   seed = refl;
+  keys = refl;
   kept = λ other has entry live. entry-push_other share.vault.entries _ other
       (λ same. none-some entry (sym none ∙ subst (λ b. entry_of share.vault.entries b ≡ Some entry) same live)) ∙ live;
 }

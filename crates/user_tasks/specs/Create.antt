@@ -1,4 +1,4 @@
--- A create as a task over its user's share of both devices: the facts that each stage rests on.
+-- A create as a task over its user's share of the devices: the facts that each stage rests on.
 use Rattle.std.specs.Prelude.{◌≡◌, ◌≢◌, Bool, false, ℕ, ◌+◌, List, [], ◌∷◌, ◌++◌, Option, Some, None}
 use Rattle.tree_model.specs.declared.blobs.Blob.{Blob}
 use Rattle.tree_model.specs.declared.places.Class.{Class}
@@ -12,11 +12,12 @@ use Rattle.journal_model.specs.declared.entries.Birth.{Birth}
 use Rattle.journal_model.specs.declared.entries.Change.{Change}
 use Rattle.journal_model.specs.declared.entries.Change.TheVariants.{Create as CreateChange}
 use Rattle.journal_model.specs.Machine.{Running as Began}
+use Rattle.journal_model.specs.Users.{Record, new_secrets}
 use Rattle.user_world.specs.declared.changes.LocalChange.TheVariants.{Born}
 use Rattle.user_world.specs.Facts.{Knows, Logged, Durable}
 use Rattle.task_turns.specs.declared.calls.Answer.{Answer}
 use Rattle.task_turns.specs.declared.calls.Answer.TheVariants.{Done, Blob as IsBlob, Sealed, Output}
-use Rattle.task_turns.specs.Shares.{ShareFact, Own, Same, Given}
+use Rattle.task_turns.specs.Shares.{ShareFact, Own, Same, Given, HasKey}
 use Rattle.task_turns.specs.Turns.{Rest, Tasks}
 use Rattle.store_task.specs.declared.turns.StoreSpec.{StoreSpec}
 use Rattle.store_task.specs.declared.stages.Progress.{Progress}
@@ -26,7 +27,8 @@ use Rattle.store_task.specs.declared.stages.Stage.TheVariants.{First, Tied, Gene
 use Rattle.store_task.specs.Task.{Task, IsTask, IsAnswer, after as store_after, held_by, held_of}
 use Rattle.store_task.specs.Task.{makes_of, draws_of, progress_of, all_files, sealing, asks_of as store_asks_of}
 use Rattle.user_tasks.specs.declared.creates.Stage.{Stage}
-use Rattle.user_tasks.specs.declared.creates.Stage.TheVariants.{Clearing, StoringCe, StoringDe, Created, Ended}
+use Rattle.user_tasks.specs.declared.creates.Stage.TheVariants.{Clearing, StoringCe, StoringDe, Created}
+use Rattle.user_tasks.specs.declared.creates.Stage.TheVariants.{InstallingDe, InstallingCe, Ended}
 use Rattle.user_tasks.specs.Stores.{Frame, turns_of, rest_in}
 
 pub record Creating : Type 0 where
@@ -50,6 +52,8 @@ IsStage ce de Clearing = (ce.stage ≡ First) × (de.stage ≡ First)
 IsStage ce de StoringCe = (progress_of ce.stage ≢ Stored) × (de.stage ≡ First)
 IsStage ce de StoringDe = (progress_of ce.stage ≡ Stored) × (progress_of de.stage ≢ Stored)
 IsStage ce de Created = Unit {0}
+IsStage ce de InstallingDe = Unit {0}
+IsStage ce de InstallingCe = Unit {0}
 IsStage ce de Ended = Unit {0}
 
 pub record IsCreating (create : Creating) : Type 0 where
@@ -76,9 +80,22 @@ on_its_way create facts =
     Own (Knows None) ∷ Given create.ce.spec.key ForCe create.user create.birth
     ∷ Given create.de.spec.key ForDe create.user create.birth ∷ facts
 
+-- a new user's record
+abbrev pub new_record : Birth → Record
+new_record birth = record { birth = birth; secrets = new_secrets }
+
+-- the user is there, and both keys are the right ones
+abbrev pub with_user : Creating → List ShareFact → List ShareFact
+with_user create facts =
+    Own (Logged (Born create.birth)) ∷ Own (Knows (Some (new_record create.birth)))
+    ∷ Given create.de.spec.key ForDe create.user create.birth
+    ∷ Given create.ce.spec.key ForCe create.user create.birth ∷ facts
+
 -- the changes that it made so far, and what the machine has of its command
 abbrev pub changes_at : Stage → ℕ → Birth → List Change
 changes_at Created user birth = CreateChange user birth ∷ []
+changes_at InstallingDe user birth = CreateChange user birth ∷ []
+changes_at InstallingCe user birth = CreateChange user birth ∷ []
 changes_at Ended user birth = CreateChange user birth ∷ []
 changes_at stage user birth = []
 
@@ -95,7 +112,7 @@ ce_frame create = record {
   current = None;
   before = [];
   serves = IsCreate create.user create.birth StoringCe;
-  turns = turns_of create.de + 2;
+  turns = turns_of create.de + 4;
   makes = makes_of create.de;
   draws = draws_of create.de;
 }
@@ -108,42 +125,42 @@ de_frame create = record {
   current = stored_at create.ce.spec create.ce.stage;
   before = held_of create.ce;
   serves = IsCreate create.user create.birth StoringDe;
-  turns = 2;
+  turns = 4;
   makes = 0;
   draws = 0;
 }
 
--- where a create rests; at the end no blob is held, since the user's directories name both
+-- where it rests once the user is there: no blob is held, since the user's directories name both
+abbrev pub rest_with : Stage → Creating → List ShareFact → ℕ → Rest
+rest_with stage create facts left = record {
+  user = create.user;
+  facts = facts;
+  held = [];
+  serves = IsCreate create.user create.birth stage;
+  left = left;
+  makes = 0;
+  draws = 0;
+}
+
+-- where a create rests
 abbrev pub rest_at : Stage → Creating → Rest
 rest_at Clearing create = record {
   user = create.user;
   facts = on_its_way create [];
   held = [];
   serves = IsCreate create.user create.birth Clearing;
-  left = turns_of create.ce + (turns_of create.de + 2);
+  left = turns_of create.ce + (turns_of create.de + 4);
   makes = makes_of create.ce + makes_of create.de;
   draws = draws_of create.ce + draws_of create.de;
 }
 rest_at StoringCe create = rest_in (ce_frame create) create.ce
 rest_at StoringDe create = rest_in (de_frame create) create.de
-rest_at Created create = record {
-  user = create.user;
-  facts = Own (Logged (Born create.birth)) ∷ [];
-  held = [];
-  serves = IsCreate create.user create.birth Created;
-  left = 2;
-  makes = 0;
-  draws = 0;
-}
-rest_at Ended create = record {
-  user = create.user;
-  facts = Own (Logged (Born create.birth)) ∷ Own Durable ∷ [];
-  held = [];
-  serves = IsCreate create.user create.birth Ended;
-  left = 1;
-  makes = 0;
-  draws = 0;
-}
+rest_at Created create = rest_with Created create (with_user create []) 4
+rest_at InstallingDe create = rest_with InstallingDe create (with_user create (Own Durable ∷ [])) 3
+rest_at InstallingCe create =
+    rest_with InstallingCe create (with_user create (Own Durable ∷ HasKey ForDe ∷ [])) 2
+rest_at Ended create = rest_with Ended create
+    (Own (Logged (Born create.birth)) ∷ Own Durable ∷ HasKey ForDe ∷ HasKey ForCe ∷ []) 1
 
 abbrev pub create_rest : Creating → Rest
 create_rest create = record (rest_at create.stage create) { user = create.user }
@@ -182,7 +199,9 @@ abbrev pub after_at : Stage → Creating → Answer → Creating
 after_at Clearing create answer = after_clearing create answer
 after_at StoringCe create answer = with_ce create (store_after create.ce answer)
 after_at StoringDe create answer = with_de create (store_after create.de answer)
-after_at Created create answer = record create { stage = Ended }
+after_at Created create answer = record create { stage = InstallingDe }
+after_at InstallingDe create answer = record create { stage = InstallingCe }
+after_at InstallingCe create answer = record create { stage = Ended }
 after_at Ended create answer = create
 
 abbrev pub after : Creating → Answer → Creating
@@ -200,6 +219,8 @@ hears_at Clearing create answer = hears_clearing create.ce answer
 hears_at StoringCe create answer = IsAnswer create.ce answer
 hears_at StoringDe create answer = IsAnswer create.de answer
 hears_at Created create answer = answer ≡ Done
+hears_at InstallingDe create answer = answer ≡ Done
+hears_at InstallingCe create answer = answer ≡ Done
 hears_at Ended create answer = ⊥
 
 abbrev pub hears : Creating → Answer → Type 0
@@ -211,6 +232,8 @@ asks_at Clearing create = store_asks_of create.ce
 asks_at StoringCe create = store_asks_of create.ce
 asks_at StoringDe create = store_asks_of create.de
 asks_at Created create = false
+asks_at InstallingDe create = false
+asks_at InstallingCe create = false
 asks_at Ended create = false
 
 abbrev pub asks_of : Creating → Bool

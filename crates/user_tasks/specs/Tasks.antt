@@ -31,7 +31,7 @@ user_of task = task.user
 
 -- how many turns any command has as it begins, at most
 abbrev pub most_turns : ℕ
-most_turns = 24
+most_turns = 26
 
 -- the turn shows what it has to, in every scene in which the task rests
 abbrev pub UserTurns : UserTask → Option Site → Next → Type 0

@@ -11,7 +11,7 @@ use Rattle.journal_model.specs.declared.commands.Reply.TheVariants.{Done}
 use Rattle.journal_model.specs.declared.entries.Birth.{Birth}
 use Rattle.journal_model.specs.Made.{key_of, nonce_of, discardable_of}
 use Rattle.user_world.specs.declared.changes.LocalChange.TheVariants.{Born}
-use Rattle.task_turns.specs.declared.calls.Call.TheVariants.{Op as OpCall}
+use Rattle.task_turns.specs.declared.calls.Call.TheVariants.{Op as OpCall, Add}
 use Rattle.task_turns.specs.declared.next.Next.TheVariants.{Call as CallNext, Reply as ReplyNext}
 use Rattle.store_task.specs.declared.turns.StoreSpec.{StoreSpec}
 use Rattle.store_task.specs.declared.stages.Progress.{Progress}
@@ -19,7 +19,7 @@ use Rattle.store_task.specs.declared.stages.Progress.TheVariants.{Settled, Store
 use Rattle.store_task.specs.declared.stages.Stage.TheVariants.{Storing}
 use Rattle.store_task.specs.Task.{Task}
 use Rattle.user_tasks.specs.declared.creates.Stage.{Stage}
-use Rattle.user_tasks.specs.declared.creates.Stage.TheVariants.{StoringDe, Created}
+use Rattle.user_tasks.specs.declared.creates.Stage.TheVariants.{StoringDe, Created, InstallingDe}
 use Rattle.user_tasks.specs.Create.{Creating}
 use Rattle.user_tasks.specs.Made.{target_of}
 use Rattle.user_tasks.specs.Tasks.{UserTurns}
@@ -100,4 +100,15 @@ abbrev pub TouchesOther : Type 0
 TouchesOther = (plan : Plan) (other : ℕ) → other ≢ plan.user
     → UserTurns (create_at plan Settled StoringDe) (Some Temp)
     (CallNext (OpCall other (RenameDir Temp De) (Some plan.de_blob)) (Some (Born plan.birth)))
+    → ⊥
+
+-- the reply comes before the keys are installed
+abbrev pub RepliesBeforeKeys : Type 0
+RepliesBeforeKeys =
+    (plan : Plan) → UserTurns (create_at plan Stored InstallingDe) (Some (Ce Current)) (ReplyNext Done) → ⊥
+
+-- it installs a key that the user wasn't given
+abbrev pub InstallsOther : Type 0
+InstallsOther = (plan : Plan) (key : List ℕ) → key ≢ key_of plan.seed ForDe plan.user plan.birth
+    → UserTurns (create_at plan Stored InstallingDe) (Some (Ce Current)) (CallNext (Add plan.user ForDe key) None)
     → ⊥

@@ -1,10 +1,12 @@
 ghost use Rattle.std.specs.Prelude.{◌≡◌, ◌<◌, IfOk};
+ghost use Rattle.task_turns.specs.declared.calls.Call.TheVariants.{Add};
 ghost use Rattle.task_turns.specs.Turns.{Asks};
 ghost use Rattle.store_task.specs.declared.stages.Stage.TheVariants.{First};
 ghost use Rattle.store_task.specs.declared.stages.Progress.TheVariants.{Stored};
 ghost use Rattle.store_task.specs.Task.{IsAnswer, after as store_after, progress_of};
 ghost use Rattle.user_tasks.specs.Create.{after, hears, all_held, held_in, with_ce, with_de, after_ce, after_de};
 ghost use Rattle.user_tasks.specs.Made.{IsFirst};
+ghost use Rattle.user_tasks.specs.Stores.{quiet_turn};
 ghost use Rattle.user_tasks.specs.Tasks.{UserTurns, UserJobs, tasks};
 
 use crate::made::made_spec;
@@ -28,11 +30,16 @@ pub enum Stage {
     StoringDe,
     /// It is at its place: the user is there.
     Created,
-    /// And that is durable.
+    /// And that is durable: the device key is being installed.
+    InstallingDe,
+    /// The credential key is being installed.
+    InstallingCe,
+    /// Both keys are installed.
     Ended,
 }
 
-/// A create on its way: a user's two keys are stored, each in a directory bound to an entry of the keystore.
+/// A create on its way: a user's two keys are stored, each in a directory bound to an entry of the keystore, and then
+/// installed.
 #[derive(Drop)]
 pub struct Create {
     user: u32,
@@ -115,6 +122,8 @@ impl Create {
                 store_turn(alloc, self.user, &self.de, Some(born))
             }
             Stage::Created => Ok(quiet(Call::Sync)),
+            Stage::InstallingDe => Ok(install(self.user, Class::De, &self.de)),
+            Stage::InstallingCe => Ok(install(self.user, Class::Ce, &self.ce)),
             Stage::Ended => Ok(Next::Reply(Reply::Done)),
         }
     }
@@ -131,7 +140,9 @@ impl Create {
             },
             Stage::StoringCe => self.heard_ce(answer),
             Stage::StoringDe => self.heard_de(answer),
-            Stage::Created => self.stage = Stage::Ended,
+            Stage::Created => self.stage = Stage::InstallingDe,
+            Stage::InstallingDe => self.stage = Stage::InstallingCe,
+            Stage::InstallingCe => self.stage = Stage::Ended,
             Stage::Ended => {}
         }
     }
@@ -143,7 +154,8 @@ impl Create {
         match self.stage {
             Stage::StoringCe => [self.ce.held(), None],
             Stage::StoringDe => [self.ce.held(), self.de.held()],
-            Stage::Clearing | Stage::Created | Stage::Ended => [None, None],
+            Stage::Clearing | Stage::Created => [None, None],
+            Stage::InstallingDe | Stage::InstallingCe | Stage::Ended => [None, None],
         }
     }
 
@@ -197,4 +209,12 @@ fn after_de(progress: Progress) -> Stage
         Progress::Stored => Stage::Created,
         _ => Stage::StoringDe,
     }
+}
+
+/// The key that was stored comes into the ring, as the user's of this class.
+fn install(user: u32, class: Class, stored: &StoreTask) -> Next
+    ensures { result ≡ quiet_turn (Add user class stored.now.spec.key) }
+{
+    let key = stored.key();
+    quiet(Call::Add { user, class, key })
 }

@@ -1,5 +1,5 @@
 ghost use Rattle.user_tasks.specs.WrongPlans.{RepliesBeforeSync, LeavesOutDevice, HidesChange, HidesBlob};
-ghost use Rattle.user_tasks.specs.WrongPlans.{TouchesOther};
+ghost use Rattle.user_tasks.specs.WrongPlans.{TouchesOther, RepliesBeforeKeys, InstallsOther};
 
 /// Wrong plans of a create, each refuted by what a turn has to show, in a scene where it fails.
 pub fn law_of_wrong_plans()
@@ -8,4 +8,6 @@ pub fn law_of_wrong_plans()
     ensures hidden { HidesChange }
     ensures unnamed { HidesBlob }
     ensures other { TouchesOther }
+    ensures uninstalled { RepliesBeforeKeys }
+    ensures other_key { InstallsOther }
 {}

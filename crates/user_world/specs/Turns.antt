@@ -1,11 +1,10 @@
--- What a user's step shows of that user's world, and when a command did its work there.
+-- What a user's step shows of that user's world, and which of its changes are logged and durable.
 use Rattle.std.specs.Prelude.{◌≡◌, ℕ, List, Option, Some, None}
 use Rattle.tree_model.specs.declared.sites.LocalOp.{LocalOp}
 use Rattle.tree_model.specs.declared.sites.LocalOp.TheVariants.{MakeDir, RemoveDir}
 use Rattle.tree_model.specs.Parts.{local_kind, LocalFits}
-use Rattle.journal_model.specs.declared.commands.Reply.{Reply}
 use Rattle.journal_model.specs.declared.entries.Change.{Change}
-use Rattle.journal_model.specs.Machine.{Running as Began, with_change, AllowsSuccess}
+use Rattle.journal_model.specs.Machine.{Running as Began, with_change}
 use Rattle.journal_model.specs.Users.{owner_of}
 use Rattle.user_world.specs.declared.changes.LocalChange.{LocalChange}
 use Rattle.user_world.specs.Changes.{change_of, local_of, noted_kind}
@@ -26,11 +25,6 @@ IsLogged user own change = (owner_of change ≡ user) × Holds (Logged (local_of
 
 abbrev pub AreDurable : ℕ → OwnWorld → Option ℕ → Type 0
 AreDurable user own of = (of ≡ Some user) × Holds Durable own
-
--- the command did its work, by its user's world
-abbrev pub OwnSucceeds : ℕ → ℕ → Began → OwnWorld → Reply → Type 0
-OwnSucceeds user boot began own reply =
-    AllowsSuccess (IsLogged user own) (AreDurable user own) boot began began.command reply
 
 -- the command with the change that a call of it made
 abbrev pub with_note : ℕ → Began → Option LocalChange → Began

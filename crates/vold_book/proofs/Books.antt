@@ -1,5 +1,5 @@
--- What a turn of a Book's own leaves, over any two devices: what it did, and that the Book stays whole.
-use Rattle.std.proofs.Common.{◌≡◌, ℕ, ◌<◌, inl, List, [], ◌∷◌, ◌++◌, sym, ap, ◌∙◌, subst}
+-- What a turn of a Book's own leaves, over any devices: what it did, and that the Book stays whole.
+use Rattle.std.proofs.Common.{◌≡◌, ℕ, ◌<◌, inl, List, [], ◌∷◌, ◌++◌, refl, sym, ap, ◌∙◌, subst}
 use Rattle.std.proofs.lemmas.Option.{same_Some, slice_get_within}
 use Rattle.std.specs.Prelude.{Option, Some, Ok, is_some, IsNone, IsSomeAnd, slice_get, length}
 use Rattle.std.specs.FinMap as map
@@ -40,13 +40,14 @@ use Rattle.vold_book.proofs.Falls.{begun-falls}
 use Rattle.vold_book.proofs.Moves.{Steady}
 use Rattle.vold_book.proofs.Plains.{Beginning, IsBeginning, begun_plain}
 use Rattle.vold_book.proofs.Replied.{whole-replied}
+use Rattle.vold_book.proofs.RingKept.{ring-entered}
 use Rattle.vold_book.proofs.Shown.{reply-told}
 use Rattle.vold_book.proofs.Small.{small-begun, small-replied}
 
-module _ {D E : Type 0} (book : BookState (BenchState D E)) (actor : Actor) (first number : ℕ) (command : Command)
+module _ {D E F : Type 0} (book : BookState (BenchState D E F)) (actor : Actor) (first number : ℕ) (command : Command)
     (task : Task) where
   -- the first of a queue begins
-  pub begun-book : (birth : Birth) (bench : BenchState D E) (boot_seed : List ℕ) (ledger ledger' : LedgerState)
+  pub begun-book : (birth : Birth) (bench : BenchState D E F) (boot_seed : List ℕ) (ledger ledger' : LedgerState)
       (docket' : Docket)
       → TakesFirst book.docket docket' actor number (record { number = first; task = task })
       → IsSomeAnd (map.get book.docket.waiting actor) (λ queue. IsFirst queue first)
@@ -80,9 +81,9 @@ module _ {D E : Type 0} (book : BookState (BenchState D E)) (actor : Actor) (fir
         };
       }
 
-module _ {D E : Type 0} (book : BookState (BenchState D E)) (actor : Actor) (it : Running) (making : Making) where
+module _ {D E F : Type 0} (book : BookState (BenchState D E F)) (actor : Actor) (it : Running) (making : Making) where
   -- a call was made
-  pub called-book : (senses : Senses D E) (made : Made) (bench : BenchState D E) (boot_seed : List ℕ)
+  pub called-book : (senses : Senses D E F) (made : Made) (bench : BenchState D E F) (boot_seed : List ℕ)
       (ledger' : LedgerState) (tracker' : TrackerState) (docket' : Docket)
       → IsMade (bench_seen senses book.bench) (bench_seen senses bench) making.call (Ok made)
       → AreCounted (bench_seen senses book.bench) (bench_seen senses bench) (device_of making.call) (told_of (Ok made))
@@ -116,10 +117,10 @@ module _ {D E : Type 0} (book : BookState (BenchState D E)) (actor : Actor) (it 
         };
       }
 
-module _ {D E : Type 0} (book : BookState (BenchState D E)) (actor : Actor) (it : Running) (reply : Reply)
+module _ {D E F : Type 0} (book : BookState (BenchState D E F)) (actor : Actor) (it : Running) (reply : Reply)
     (command : Command) where
   -- a reply was given
-  pub replied-book : (bench : BenchState D E) (ledger ledger' : LedgerState) (docket' : Docket)
+  pub replied-book : (bench : BenchState D E F) (ledger ledger' : LedgerState) (docket' : Docket)
       (tracker' : TrackerState)
       → slice_get book.docket.commands it.number ≡ Some command
       → bench ≡ record book.bench { list = listed book.bench.list (lists_with it.task) } → ledger ≡ book.ledger
@@ -140,7 +141,8 @@ module _ {D E : Type 0} (book : BookState (BenchState D E)) (actor : Actor) (it 
     };
   }
 
-module _ {D E : Type 0} (senses : Senses D E) (book : BookState (BenchState D E)) (whole : IsWhole senses book) where
+module _ {D E F : Type 0} (senses : Senses D E F) (book : BookState (BenchState D E F))
+    (whole : IsWhole senses book) where
   abbrev plain : Plain
   plain = seen senses book
 
@@ -152,7 +154,7 @@ module _ {D E : Type 0} (senses : Senses D E) (book : BookState (BenchState D E)
       slice_get_within book.docket.commands it.number on.began.command
       (whole.numbers.given it.number on.began on.at).given
 
-  module _ (after : BookState (BenchState D E)) (actor : Actor) (idle : IsNone (map.get book.docket.running actor))
+  module _ (after : BookState (BenchState D E F)) (actor : Actor) (idle : IsNone (map.get book.docket.running actor))
       (begins : Begins book after actor) where
     abbrev beginning : Beginning
     beginning = record {
@@ -181,6 +183,7 @@ module _ {D E : Type 0} (senses : Senses D E) (book : BookState (BenchState D E)
       seeded = whole.seeded;
       store = whole.store;
       level = whole.level;
+      ring = ring-entered plain (Began begins.number actor begins.command) refl refl whole.ring;
       clean = clean-begun plain actor beginning birth whole (none_of (map.get book.docket.running actor) idle)
           begins.first;
       small = small-begun plain whole.small actor beginning birth book.boot_seed
@@ -204,7 +207,7 @@ module _ {D E : Type 0} (senses : Senses D E) (book : BookState (BenchState D E)
 
   module _ (actor : Actor) (it : Running) where
     module _ (now : Task) (reply : Reply) (plans : Plans plain actor it now (ReplyNext reply)) where
-      pub replies-whole : (after : BookState (BenchState D E)) → RepliesTo book after actor it reply
+      pub replies-whole : (after : BookState (BenchState D E F)) → RepliesTo book after actor it reply
           → IsWhole senses after
       replies-whole after replies =
           let began = plans.on.began in
@@ -217,6 +220,7 @@ module _ {D E : Type 0} (senses : Senses D E) (book : BookState (BenchState D E)
             seeded = whole.seeded;
             store = whole.store;
             level = whole.level;
+            ring = ring-entered plain (Replied it.number reply) refl refl whole.ring;
             clean = clean-replied plain actor it now began.command reply whole plans
                 (whole.numbers.given it.number began plans.on.at).given;
             small = small-replied plain whole.small actor it plans.runs began.command reply;
@@ -240,14 +244,14 @@ module _ {D E : Type 0} (senses : Senses D E) (book : BookState (BenchState D E)
           (same_Some planned.it it (sym planned.plans.runs ∙ runs)) planned.plans
 
       -- and the task may hear what its device answered
-      pub planned-hears : (now : Task) → now ≡ task_now done it.task → (made : Made) (bench : BenchState D E)
+      pub planned-hears : (now : Task) → now ≡ task_now done it.task → (made : Made) (bench : BenchState D E F)
           → IsMade (bench_seen senses book.bench) (bench_seen senses bench) call (Ok made)
           → AnswersWhole (Ok made) → HearsMade now made
       planned-hears now is made bench is_made long =
           subst (λ t. HearsMade t made) (sym is) (call-hears plain actor it (making_of it it.task) whole plans-it made
           (bench_seen senses bench) is_made long)
 
-      module _ (after : BookState (BenchState D E)) (then : Task)
+      module _ (after : BookState (BenchState D E F)) (then : Task)
           (makes : Makes senses book after actor it.number (making_of it then)) where
         pub planned-goes : GoesOn senses book after actor
         planned-goes = inl (record { it = it; making = making_of it then; plans = plans-it; makes = makes })

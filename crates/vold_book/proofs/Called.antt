@@ -5,7 +5,7 @@ use Rattle.journal_model.specs.declared.commands.Actor.{Actor}
 use Rattle.user_world.specs.declared.changes.LocalChange.{LocalChange}
 use Rattle.task_turns.specs.declared.calls.Call.{Call}
 use Rattle.task_turns.specs.declared.calls.Call.TheVariants.{Op as OpCall, Sync, List as ListCall, Read}
-use Rattle.task_turns.specs.declared.calls.Call.TheVariants.{Generate, Encrypt, Entries}
+use Rattle.task_turns.specs.declared.calls.Call.TheVariants.{Generate, Encrypt, Entries, Add}
 use Rattle.tree_model.specs.declared.sites.LocalOp.{LocalOp}
 use Rattle.task_turns.specs.declared.next.Next.TheVariants.{Call as CallNext}
 use Rattle.keystore_model.specs.Store.{IsStore}
@@ -19,14 +19,16 @@ use Rattle.bench.specs.Seen.{AnswersWhole}
 use Rattle.vold_book.specs.declared.tasks.Running.{Running}
 use Rattle.vold_book.specs.declared.tasks.Task.{Task}
 use Rattle.vold_book.specs.declared.tasks.Task.TheVariants.{User as Using, Recovery as Recovers, Refusal, Fault}
+use Rattle.vold_book.specs.Installed.{RingStands}
 use Rattle.vold_book.specs.State.{Plain, ground_of}
 use Rattle.vold_book.specs.Tasks.{Plans, TaskAfter, HearsMade}
 use Rattle.vold_book.specs.Turns.{Making, after_call}
 use Rattle.vold_book.specs.Whole.{Whole}
-use Rattle.vold_book.proofs.Moves.{Moves, after_of, whole-moved}
+use Rattle.vold_book.proofs.Moves.{Moves, after_of, whole-moved, machine-with}
 use Rattle.vold_book.proofs.Planned.{runs-up}
 use Rattle.vold_book.proofs.PlannedRecovery.{few-listed}
 use Rattle.vold_book.proofs.RecoveryTurns.{recovery-fits, recovery-heard, recovery-moves}
+use Rattle.vold_book.proofs.RingKept.{ring-called}
 use Rattle.vold_book.proofs.Small.{small-bounds, small-called}
 use Rattle.vold_book.proofs.Shown.{HearsWhole, call-due, call-falls}
 use Rattle.vold_book.proofs.Charged.{called-charged}
@@ -123,6 +125,7 @@ module _ (before after : Seen) (whole : IsStore before.store) where
   }
   done-store (Encrypt blob app_id nonce key) answer does = same-store (ap (λ b. b.store) does.1)
   done-store Entries answer does = same-store (ap (λ b. b.store) does.1.2)
+  done-store (Add user class key) answer does = same-store (ap (λ b. b.store) does.1)
 
   failed-call_store : (call : Call) → IsFailed before after call → KeepsStore before after
   failed-call_store (OpCall user op names) failed = failed-op_store user op failed
@@ -132,6 +135,7 @@ module _ (before after : Seen) (whole : IsStore before.store) where
   failed-call_store (Generate tag app_id) failed = same-store (ap (λ b. b.store) failed)
   failed-call_store (Encrypt blob app_id nonce key) failed = same-store (ap (λ b. b.store) failed)
   failed-call_store Entries failed = same-store (ap (λ b. b.store) failed)
+  failed-call_store (Add user class key) failed = same-store (ap (λ b. b.store) failed)
 
   made-store : (call : Call) (made : Made) → IsMade before after call (Ok made) → KeepsStore before after
   made-store call (Heard answer) is = done-store call answer is
@@ -170,6 +174,9 @@ module _ (book : Plain) (actor : Actor) (it : Running) (making : Making) (whole 
           seeded = whole.seeded ∙ ap (boot_seed_of book.seed) (sym stays.boot);
           store = store.whole;
           level = store.level ∙ whole.level ∙ sym stays.level;
+          ring = subst (RingStands book.seed bench.keys)
+              (sym (machine-with book.ledger.entries (after_of book it.number making made bench).entry))
+              (ring-called book actor it making whole plans made bench is_made);
           clean = clean-called book actor it making bench whole plans made is_made after long;
           small = small-called book whole.small actor it plans.runs making made bench
               (call-falls book actor it making plans made after bench is_made whole.store (hears-whole made long))

@@ -1,6 +1,6 @@
 -- Replies that tell of a failure stay charged to failures of their devices, through each turn, stop and restart.
-use Rattle.std.proofs.Common.{◌≡◌, ◌≤◌, ◌⊎◌, inl, inr, ◌+◌, ◌-◌, ◌^◌, ℕ, List, [], ◌∷◌, ◌++◌, refl, ap}
-use Rattle.std.proofs.Common.{subst, sym, arith}
+use Rattle.std.proofs.Common.{◌≡◌, ◌≢◌, ◌≤◌, ◌⊎◌, inl, inr, ◌+◌, ◌-◌, ◌^◌, ℕ, List, [], ◌∷◌, ◌++◌}
+use Rattle.std.proofs.Common.{refl, ap, ◌∙◌, subst, sym, arith}
 use Rattle.std.specs.Prelude.{Option, Some, None, Ok}
 use Rattle.std.specs.FinMap as map
 use Rattle.tree_model.specs.declared.ops.Cut.{Cut}
@@ -9,10 +9,11 @@ use Rattle.journal_model.specs.declared.commands.Actor.{Actor}
 use Rattle.journal_model.specs.declared.commands.Command.{Command}
 use Rattle.journal_model.specs.declared.commands.Reply.{Reply}
 use Rattle.journal_model.specs.declared.commands.Reply.TheVariants.{Done, Ended, UserExists, Ready}
-use Rattle.journal_model.specs.declared.commands.Reply.TheVariants.{TreeFault, StoreFault}
+use Rattle.journal_model.specs.declared.commands.Reply.TheVariants.{TreeFault, StoreFault, RingFault}
 use Rattle.journal_model.specs.declared.entries.Birth.{Birth}
 use Rattle.journal_model.specs.declared.entries.Device.{Device}
 use Rattle.journal_model.specs.declared.entries.Device.TheVariants.{Tree as TreeDevice, Store as StoreDevice}
+use Rattle.journal_model.specs.declared.entries.Device.TheVariants.{Ring as RingDevice}
 use Rattle.journal_model.specs.declared.entries.Entry.{Entry}
 use Rattle.journal_model.specs.declared.entries.Entry.TheVariants.{Began, Stopped, Restarted, Replied}
 use Rattle.journal_model.specs.Actor.{actor_cmp, actor_total, actor_exact}
@@ -23,7 +24,7 @@ use Rattle.docket.proofs.Accounts.{sum-empty}
 use Rattle.user_world.specs.declared.changes.LocalChange.{LocalChange}
 use Rattle.task_turns.specs.declared.calls.Call.{Call}
 use Rattle.task_turns.specs.declared.calls.Call.TheVariants.{Op as OpCall, Sync, List as ListCall, Read}
-use Rattle.task_turns.specs.declared.calls.Call.TheVariants.{Generate, Encrypt, Entries}
+use Rattle.task_turns.specs.declared.calls.Call.TheVariants.{Generate, Encrypt, Entries, Add}
 use Rattle.bench.specs.declared.made.Made.{Made}
 use Rattle.bench.specs.declared.made.Made.TheVariants.{Heard, Failed}
 use Rattle.bench.specs.Bench.{Plain as Seen, AreCounted, IsMade, device_of, told_of}
@@ -52,26 +53,30 @@ pub noted-entry : (made : Made) (number : ℕ) (call : Call) (change : Option Lo
     → IsNoted number (made_entry made (entry_of number call change))
 noted-entry (Failed device) number call change = tt
 noted-entry (Heard answer) number (OpCall user op names) None = tt
-noted-entry (Heard answer) number (OpCall user op names) (Some change) = inr (_, refl)
+noted-entry (Heard answer) number (OpCall user op names) (Some change) = inr (inl (_, refl))
 noted-entry (Heard answer) number Sync change = inl refl
 noted-entry (Heard answer) number ListCall change = tt
 noted-entry (Heard answer) number (Read place) change = tt
 noted-entry (Heard answer) number (Generate tag app_id) change = tt
 noted-entry (Heard answer) number (Encrypt blob app_id nonce key) change = tt
 noted-entry (Heard answer) number Entries change = tt
+noted-entry (Heard answer) number (Add user class key) change = inr (inr (user, class, refl))
 
 charges-noted : (device : Device) (number : ℕ) (entries : List Entry) (entry : Option Entry) → IsNoted number entry
     → total_by (charge_in device) (with_entry entries entry) ≡ total_by (charge_in device) entries
 charges-noted device number entries None noted = refl
 charges-noted device number entries (Some entry) (inl is) =
     let a = charges-append device entries entry in let n = ap (charge_in device) is in omega (arith, a, n)
-charges-noted device number entries (Some entry) (inr (change, is)) =
+charges-noted device number entries (Some entry) (inr (inl (change, is))) =
+    let a = charges-append device entries entry in let n = ap (charge_in device) is in omega (arith, a, n)
+charges-noted device number entries (Some entry) (inr (inr (user, class, is))) =
     let a = charges-append device entries entry in let n = ap (charge_in device) is in omega (arith, a, n)
 
 -- what a reply charges was due
 due-fault : (device : Device) (task : Task) → IsFault device task → due_in device task ≡ 1
 due-fault TreeDevice task fault = ap (due_in TreeDevice) fault.is
 due-fault StoreDevice task fault = ap (due_in StoreDevice) fault.is
+due-fault RingDevice task fault = ap (due_in RingDevice) fault.is
 
 due-told : (device : Device) (reply : Reply) (task : Task) → (reply ≡ fault_of device → IsFault device task)
     → charge_of device reply ≤ due_in device task
@@ -81,12 +86,21 @@ due-told TreeDevice UserExists task told = omega arith
 due-told TreeDevice Ready task told = omega arith
 due-told TreeDevice TreeFault task told = let e = due-fault TreeDevice task (told refl) in omega (arith, e)
 due-told TreeDevice StoreFault task told = omega arith
+due-told TreeDevice RingFault task told = omega arith
 due-told StoreDevice Done task told = omega arith
 due-told StoreDevice (Ended count) task told = omega arith
 due-told StoreDevice UserExists task told = omega arith
 due-told StoreDevice Ready task told = omega arith
 due-told StoreDevice TreeFault task told = omega arith
 due-told StoreDevice StoreFault task told = let e = due-fault StoreDevice task (told refl) in omega (arith, e)
+due-told StoreDevice RingFault task told = omega arith
+due-told RingDevice Done task told = omega arith
+due-told RingDevice (Ended count) task told = omega arith
+due-told RingDevice UserExists task told = omega arith
+due-told RingDevice Ready task told = omega arith
+due-told RingDevice TreeFault task told = omega arith
+due-told RingDevice StoreFault task told = omega arith
+due-told RingDevice RingFault task told = let e = due-fault RingDevice task (told refl) in omega (arith, e)
 
 pub due-first : (device : Device) (command : Command) (birth : Birth) (seed : List ℕ) (verdict : Option Reply)
     (task : Task)
@@ -98,6 +112,34 @@ due-first device command birth seed None task first = by (user_in command) first
     by : (user : Option ℕ) → AcceptedTask command birth seed user task → due_in device task ≡ 0
     by (Some user) accepted = ap (due_in device) accepted.1
     by None is = ap (due_in device) is
+
+-- a device is itself, and no other
+device-itself : (device : Device) → same_device device device ≡ 1
+device-itself TreeDevice = refl
+device-itself StoreDevice = refl
+device-itself RingDevice = refl
+
+devices-apart : (device other : Device) → device ≢ other → same_device device other ≡ 0
+devices-apart TreeDevice TreeDevice differ = absurd (differ refl)
+devices-apart TreeDevice StoreDevice differ = refl
+devices-apart TreeDevice RingDevice differ = refl
+devices-apart StoreDevice TreeDevice differ = refl
+devices-apart StoreDevice StoreDevice differ = absurd (differ refl)
+devices-apart StoreDevice RingDevice differ = refl
+devices-apart RingDevice TreeDevice differ = refl
+devices-apart RingDevice StoreDevice differ = refl
+devices-apart RingDevice RingDevice differ = absurd (differ refl)
+
+decide-device : (device other : Device) → (device ≡ other) ⊎ (device ≢ other)
+decide-device TreeDevice TreeDevice = inl refl
+decide-device TreeDevice StoreDevice = inr (λ e. cc)
+decide-device TreeDevice RingDevice = inr (λ e. cc)
+decide-device StoreDevice TreeDevice = inr (λ e. cc)
+decide-device StoreDevice StoreDevice = inl refl
+decide-device StoreDevice RingDevice = inr (λ e. cc)
+decide-device RingDevice TreeDevice = inr (λ e. cc)
+decide-device RingDevice StoreDevice = inr (λ e. cc)
+decide-device RingDevice RingDevice = inl refl
 
 -- a device's failures don't get fewer, and rise where it fails, while it can count them
 record FaultsRise (before after : Seen) (device : Device) (due : ℕ) : Type 0 where
@@ -123,27 +165,33 @@ module _ (before after : Seen) where
     ];
   }
 
+  -- a device's failures by the call of one, which may be this
+  faults-own : (device : Device) (made : Made) → AreCounted before after device (told_of (Ok made))
+      → ((failed : Device) → made ≡ Failed failed → failed ≡ device)
+      → FaultsRise before after device (due_made device made)
+  faults-own device (Heard answer) are own = counted-heard device are.counts.never_falls
+  faults-own device (Failed failed) are own =
+      subst (λ due. FaultsRise before after device due)
+      (sym (ap (same_device device) (own failed refl) ∙ device-itself device))
+      (counted-failed device are.counts.never_falls (are.counts.failed refl))
+
+  faults-other : (device counted : Device) (made : Made) → AreCounted before after counted (told_of (Ok made))
+      → ((failed : Device) → made ≡ Failed failed → failed ≡ counted) → device ≢ counted
+      → FaultsRise before after device (due_made device made)
+  faults-other device counted (Heard answer) are own differ =
+      same-faults before after device (ap (λ c. c.faults) (are.others device differ))
+  faults-other device counted (Failed failed) are own differ =
+      subst (λ due. FaultsRise before after device due)
+      (sym (ap (same_device device) (own failed refl) ∙ devices-apart device counted differ))
+      (same-faults before after device (ap (λ c. c.faults) (are.others device differ)))
+
   faults-rise : (device counted : Device) (made : Made) → AreCounted before after counted (told_of (Ok made))
       → ((failed : Device) → made ≡ Failed failed → failed ≡ counted)
       → FaultsRise before after device (due_made device made)
-  faults-rise TreeDevice TreeDevice (Heard answer) are own = counted-heard TreeDevice are.0.never_falls
-  faults-rise TreeDevice StoreDevice (Heard answer) are own =
-      same-faults before after TreeDevice (ap (λ c. c.faults) are.0)
-  faults-rise StoreDevice TreeDevice (Heard answer) are own =
-      same-faults before after StoreDevice (ap (λ c. c.faults) are.1)
-  faults-rise StoreDevice StoreDevice (Heard answer) are own = counted-heard StoreDevice are.1.never_falls
-  faults-rise TreeDevice TreeDevice (Failed failed) are own =
-      subst (λ d. FaultsRise before after TreeDevice (same_device TreeDevice d)) (sym (own failed refl))
-      (counted-failed TreeDevice are.0.never_falls (are.0.failed refl))
-  faults-rise TreeDevice StoreDevice (Failed failed) are own =
-      subst (λ d. FaultsRise before after TreeDevice (same_device TreeDevice d)) (sym (own failed refl))
-      (same-faults before after TreeDevice (ap (λ c. c.faults) are.0))
-  faults-rise StoreDevice TreeDevice (Failed failed) are own =
-      subst (λ d. FaultsRise before after StoreDevice (same_device StoreDevice d)) (sym (own failed refl))
-      (same-faults before after StoreDevice (ap (λ c. c.faults) are.1))
-  faults-rise StoreDevice StoreDevice (Failed failed) are own =
-      subst (λ d. FaultsRise before after StoreDevice (same_device StoreDevice d)) (sym (own failed refl))
-      (counted-failed StoreDevice are.1.never_falls (are.1.failed refl))
+  faults-rise device counted made are own = elim (decide-device device counted) [
+    | inl same ↦ subst (λ d. FaultsRise before after d (due_made d made)) (sym same) (faults-own counted made are own)
+    | inr differ ↦ faults-other device counted made are own differ
+  ]
 
 -- a call fails at its own device
 failed-own : (before after : Seen) (call : Call) (made : Made) → IsMade before after call (Ok made)
@@ -157,6 +205,7 @@ begun-faults : (task : Task) (bench : Seen) (device : Device)
 begun-faults (Using task) bench device = refl
 begun-faults (Recovers recovery) bench TreeDevice = refl
 begun-faults (Recovers recovery) bench StoreDevice = refl
+begun-faults (Recovers recovery) bench RingDevice = refl
 begun-faults (Refusal reply) bench device = refl
 begun-faults (Fault failed held) bench device = refl
 
@@ -231,8 +280,11 @@ module _ (book : Plain) (device : Device) (charged : IsCharged book device) wher
 
 -- a Book as it is opened
 pub opened-charged : (bench : Seen) (seed : List ℕ) (device : Device)
-    → IsCharged (new_book bench (opened_at bench.tree_counts bench.store_counts) seed) device
+    → IsCharged (new_book bench (opened_at bench.tree_counts bench.store_counts bench.ring_counts) seed)
+    device
 opened-charged bench seed TreeDevice =
     let none = sum-empty actor_cmp (due_of TreeDevice) in inl (omega (arith, none))
 opened-charged bench seed StoreDevice =
     let none = sum-empty actor_cmp (due_of StoreDevice) in inl (omega (arith, none))
+opened-charged bench seed RingDevice =
+    let none = sum-empty actor_cmp (due_of RingDevice) in inl (omega (arith, none))

@@ -28,7 +28,7 @@ use Rattle.task_turns.specs.declared.calls.Answer.{Answer}
 use Rattle.task_turns.specs.declared.calls.Answer.TheVariants.{Sealed}
 use Rattle.task_turns.specs.declared.calls.Call.{Call}
 use Rattle.task_turns.specs.declared.calls.Call.TheVariants.{Op, Sync, List as ListCall, Read}
-use Rattle.task_turns.specs.declared.calls.Call.TheVariants.{Generate, Encrypt, Entries}
+use Rattle.task_turns.specs.declared.calls.Call.TheVariants.{Generate, Encrypt, Entries, Add}
 use Rattle.task_turns.specs.declared.next.Next.{Next}
 use Rattle.task_turns.specs.declared.next.Next.TheVariants.{Call as CallNext}
 use Rattle.task_turns.specs.Names.{Brings}
@@ -116,6 +116,7 @@ module _ (book : Plain) (whole : Whole book) (actor : Actor) (it then : Running)
   clean-failed bench (Generate tag app_id) same brings failed = clean-rests bench same (ap sensed failed)
   clean-failed bench (Encrypt blob app_id nonce key) same brings failed = clean-rests bench same (ap sensed failed)
   clean-failed bench Entries same brings failed = clean-rests bench same (ap sensed failed)
+  clean-failed bench (Add user class key) same brings failed = clean-rests bench same (ap sensed failed)
 
   -- a user's call that was done
   module _ (task : UserTask) (began : Began) (held : (rest_of task).held ≡ held_of it) where
@@ -153,6 +154,8 @@ module _ (book : Plain) (whole : Whole book) (actor : Actor) (it then : Running)
         shows.under.entry nonce key shows.under.live)) after ∙ shows.held ∙ held)
         (ap sensed does.1)
     user-done bench Entries change answer stands does long after = absurd stands
+    user-done bench (Add user class key) change answer stands does long after =
+        clean-rests bench (subst HeldAfter does.0 after ∙ stands.held ∙ held) (ap sensed does.1)
 
   -- a recovery's, which holds nothing
   recovery-done : (recovery : Recovery) → held_of it ≡ [] → held_of then ≡ held_of it → book.tracker.phase ≡ Down
@@ -171,6 +174,7 @@ module _ (book : Plain) (whole : Whole book) (actor : Actor) (it then : Running)
       clean-rests bench same (ap sensed does.1)
   recovery-done recovery none same down bench (Generate tag app_id) answer calls does = absurd calls
   recovery-done recovery none same down bench (Encrypt blob app_id nonce key) answer calls does = absurd calls
+  recovery-done recovery none same down bench (Add user class key) answer calls does = absurd calls
   recovery-done recovery none same down bench Entries answer calls does =
       subst (CleanSensed book whole actor it then runs) (sym (ap sensed does.1.2))
       (clean-held (record (custody_of book) { list = listed book.bench.list does.1.0 })

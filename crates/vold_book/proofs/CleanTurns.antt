@@ -11,8 +11,8 @@ use Rattle.journal_model.specs.declared.commands.Command.{Command}
 use Rattle.journal_model.specs.declared.commands.Command.TheVariants.{Recover}
 use Rattle.journal_model.specs.declared.commands.Reply.{Reply}
 use Rattle.journal_model.specs.declared.entries.Birth.{Birth}
-use Rattle.journal_model.specs.declared.commands.Reply.TheVariants.{TreeFault, StoreFault}
-use Rattle.journal_model.specs.declared.entries.Device.TheVariants.{Tree, Store}
+use Rattle.journal_model.specs.declared.commands.Reply.TheVariants.{TreeFault, StoreFault, RingFault}
+use Rattle.journal_model.specs.declared.entries.Device.TheVariants.{Tree, Store, Ring}
 use Rattle.journal_model.specs.declared.phase.Phase.TheVariants.{Down}
 use Rattle.journal_model.specs.Command.{actor_of, user_in}
 use Rattle.journal_model.specs.Machine.{Running as Began, is_up, phase_after, kind_of_reply}
@@ -244,11 +244,14 @@ module _ (book : Plain) (actor : Actor) (it : Running) (now : Task) (command : C
             fails-ready (λ success. failed (ap kind_of_reply (sym (next_reply reply TreeFault shows)) ∙ success))
         by (Fault Store held) stands lists shows =
             fails-ready (λ success. failed (ap kind_of_reply (sym (next_reply reply StoreFault shows)) ∙ success))
+        by (Fault Ring held) stands lists shows =
+            fails-ready (λ success. failed (ap kind_of_reply (sym (next_reply reply RingFault shows)) ∙ success))
 
 -- a stop, whatever it leaves of the tree
 pub clean-stopped : (book : Plain) (bench : Seen) (cut : Cut) (kept : ℕ)
     → bench ≡ record book.bench {
       disk = stopped book.bench.disk cut.keep cut.fills;
+      keys = [];
       list = unlisted book.bench.list;
     } → IsClean (custody_of (after_stop book bench cut kept))
 clean-stopped book bench cut kept is =

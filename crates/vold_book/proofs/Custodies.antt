@@ -1,7 +1,7 @@
 -- Each turn of a Book keeps its blobs in order: every live one is named, held or listed.
 use Rattle.std.proofs.Common.{◌≡◌, ℕ, ◌++◌, inl, inr, true, List, [], ◌∷◌, sym, ap, ◌∙◌, subst}
 use Rattle.std.proofs.lemmas.Option.{same_Some}
-use Rattle.std.specs.Prelude.{Bool, Some, None, Contains}
+use Rattle.std.specs.Prelude.{Bool, Some, None}
 use Rattle.std.specs.FinMap as map
 use Rattle.tree_model.specs.declared.blobs.Blob.{Blob}
 use Rattle.tree_model.specs.declared.sites.LocalOp.{LocalOp}

@@ -8,7 +8,7 @@ use Rattle.std.specs.Cmp.{IsTotalOrder}
 use Rattle.std.specs.FinMap as map
 use Rattle.std.specs.FinMap.{IsAntisymmetric, entries_sorted}
 use Rattle.std.specs.FinMap.Entries.{find, is_sorted, below_all}
-use Rattle.std.specs.Ordering.{is_eq, eq_by_cmp}
+use Rattle.std.specs.Ordering.{eq_by_cmp}
 use Rattle.tree_model.proofs.Logic.{is_equal, T_first, T_second}
 use Rattle.tree_model.proofs.Maps.{tied, decide_key, get-remove_same, get-remove_other, insert-remove}
 use Rattle.tree_model.specs.declared.sites.LocalOp.{LocalOp}
@@ -32,7 +32,7 @@ use Rattle.step_core.specs.Table.{NamedPlaces}
 use Rattle.task_turns.specs.declared.calls.Answer.{Answer}
 use Rattle.task_turns.specs.declared.calls.Call.{Call}
 use Rattle.task_turns.specs.declared.calls.Call.TheVariants.{Op as OpCall, Sync, List as ListCall, Read}
-use Rattle.task_turns.specs.declared.calls.Call.TheVariants.{Generate, Encrypt, Entries}
+use Rattle.task_turns.specs.declared.calls.Call.TheVariants.{Generate, Encrypt, Entries, Add}
 use Rattle.bench.specs.declared.made.Made.{Made}
 use Rattle.bench.specs.declared.made.Made.TheVariants.{Heard, Failed}
 use Rattle.bench.specs.Bench.{Plain as Seen, Fits, Does, IsFailed, IsFailedOp, IsMade}
@@ -115,6 +115,7 @@ failed-len before after (Read place) fits failed = ap (λ b. map.len (view b.dis
 failed-len before after (Generate tag app_id) fits failed = ap (λ b. map.len (view b.disk)) failed
 failed-len before after (Encrypt blob app_id nonce key) fits failed = ap (λ b. map.len (view b.disk)) failed
 failed-len before after Entries fits failed = ap (λ b. map.len (view b.disk)) failed
+failed-len before after (Add user class key) fits failed = ap (λ b. map.len (view b.disk)) failed
 
 done-len : (before after : Seen) (call : Call) (answer : Answer) → Fits before call → Does before after call answer
     → map.len (view after.disk) + (cost_made call (Heard answer)).takes
@@ -129,6 +130,7 @@ done-len before after (Read place) answer fits does = ap (λ b. map.len (view b.
 done-len before after (Generate tag app_id) answer fits does = ap (λ b. map.len (view b.disk) + 0) does.3
 done-len before after (Encrypt blob app_id nonce key) answer fits does = ap (λ b. map.len (view b.disk) + 0) does.1
 done-len before after Entries answer fits does = ap (λ b. map.len (view b.disk) + 0) does.1.2
+done-len before after (Add user class key) answer fits does = ap (λ b. map.len (view b.disk) + 0) does.1
 
 made-len : (before after : Seen) (call : Call) (made : Made) → Fits before call
     → IsMade before after call (Ok made)

@@ -1,4 +1,5 @@
--- A user's turn leaves what stands at the places of other users, and the entries of their keys.
+-- A user's turn leaves what stands at the places of other users, the entries of their keys, and their keys in the
+-- ring.
 use Rattle.std.proofs.Common.{◌≡◌, ◌≢◌, ℕ, ◌==◌, false, cond, List, [], ◌∷◌, ◌++◌, refl, sym, ap, ◌∙◌, subst}
 use Rattle.std.specs.Prelude.{Option, Ok}
 use Rattle.std.proofs.lemmas.Bool.{ne_eqb}
@@ -12,6 +13,8 @@ use Rattle.tree_model.specs.Touch.{SameFor}
 use Rattle.tree_model.proofs.Images.{applied-append}
 use Rattle.tree_model.proofs.Parts.{of_user}
 use Rattle.tree_model.proofs.Touch.{same-other}
+use Rattle.key_ring.specs.Ring.{key_of}
+use Rattle.key_ring.proofs.Owners.{others-keys}
 use Rattle.keystore_model.specs.declared.entry.StoreEntry.{StoreEntry}
 use Rattle.journal_model.specs.declared.commands.Actor.{Actor}
 use Rattle.journal_model.specs.declared.commands.Actor.TheVariants.{User}
@@ -20,12 +23,12 @@ use Rattle.user_world.specs.declared.changes.LocalChange.{LocalChange}
 use Rattle.task_turns.specs.declared.calls.Answer.{Answer}
 use Rattle.task_turns.specs.declared.calls.Call.{Call}
 use Rattle.task_turns.specs.declared.calls.Call.TheVariants.{Op as OpCall, Sync, List as ListCall, Read}
-use Rattle.task_turns.specs.declared.calls.Call.TheVariants.{Generate, Encrypt, Entries}
+use Rattle.task_turns.specs.declared.calls.Call.TheVariants.{Generate, Encrypt, Entries, Add}
 use Rattle.task_turns.specs.declared.next.Next.TheVariants.{Call as CallNext}
 use Rattle.task_turns.specs.Turns.{CallStands}
 use Rattle.bench.specs.declared.made.Made.{Made}
 use Rattle.bench.specs.declared.made.Made.TheVariants.{Heard, Failed}
-use Rattle.bench.specs.Bench.{Plain as Seen, Does, IsFailed, IsFailedOp, IsMade}
+use Rattle.bench.specs.Bench.{Plain as Seen, Rests, Does, IsFailed, IsFailedOp, IsMade}
 use Rattle.user_tasks.specs.Tasks.{tasks, user_of, rest_of}
 use Rattle.vold_book.specs.declared.tasks.Running.{Running}
 use Rattle.vold_book.specs.declared.tasks.Task.{Task}
@@ -36,20 +39,27 @@ use Rattle.vold_book.specs.Turns.{entries_of}
 use Rattle.vold_book.proofs.UserTurns.{not_boot, same_user}
 use Rattle.vold_book.proofs.Worked.{stands-now}
 
--- what stands at a user's places, and the entries of the user's keys, are as they were
+-- what stands at a user's places, the entries of the user's keys, and the user's keys in the ring, are as they were
 pub record SpareFor (user : ℕ) (before after : Seen) : Type 0 where
   pub places : SameFor user (view before.disk) (view after.disk)
   pub entries : entries_of user after.store.entries ≡ entries_of user before.store.entries
+  pub keys : key_of after.keys user ≡ key_of before.keys user
 
 same-tree : (user : ℕ) (before after : Tree) → after ≡ before → SameFor user before after
 same-tree user before after same = subst (SameFor user before) (sym same) (record { same = λ place of. refl })
 
 pub spare-same : (user : ℕ) (before after : Seen) → after.disk ≡ before.disk → after.store ≡ before.store
-    → SpareFor user before after
-spare-same user before after disk store = record {
+    → after.keys ≡ before.keys → SpareFor user before after
+spare-same user before after disk store keys = record {
   places = same-tree user _ _ (ap view disk);
   entries = ap (λ s. entries_of user s.entries) store;
+  keys = ap (λ ring. key_of ring user) keys;
 }
+
+-- all but the counts is
+spare-rests : (user : ℕ) (before after : Seen) → Rests before after → SpareFor user before after
+spare-rests user before after rests =
+    spare-same user before after (ap (λ b. b.disk) rests) (ap (λ b. b.store) rests) (ap (λ b. b.keys) rests)
 
 -- an entry of another user's key is none of the user's
 entries-push : (user : ℕ) (entries : List StoreEntry) (entry : StoreEntry) → (entry.tag.user == user) ≡ false
@@ -63,70 +73,73 @@ other-user owner user differ = ne_eqb owner user (λ e. differ (sym e))
 
 module _ (before after : Seen) (owner other : ℕ) (differ : other ≢ owner) where
   spare-op : (op : LocalOp) → after.disk ≡ with_op before.disk (op_of owner op) → after.store ≡ before.store
-      → SpareFor other before after
-  spare-op op disk store = record {
+      → after.keys ≡ before.keys → SpareFor other before after
+  spare-op op disk store keys = record {
     places = subst (SameFor other (view before.disk))
         (sym (ap view disk ∙ applied-append before.disk.stable before.disk.pending (op_of owner op)))
         (same-other owner other (view before.disk) (op_of owner op) (of_user owner op) differ);
     entries = ap (λ s. entries_of other s.entries) store;
+    keys = ap (λ ring. key_of ring other) keys;
   }
 
   spare-failed : (op : LocalOp) → IsFailedOp before after owner op → SpareFor other before after
-  spare-failed (Write site file bytes) failed =
-      spare-op (Write site file failed.0) (ap (λ b. b.disk) failed.1) (ap (λ b. b.store) failed.1)
-  spare-failed (MakeDir site) failed =
-      spare-same other before after (ap (λ b. b.disk) failed) (ap (λ b. b.store) failed)
-  spare-failed (RenameFile site from to) failed =
-      spare-same other before after (ap (λ b. b.disk) failed) (ap (λ b. b.store) failed)
-  spare-failed (RenameDir from to) failed =
-      spare-same other before after (ap (λ b. b.disk) failed) (ap (λ b. b.store) failed)
-  spare-failed (RemoveFile site file) failed =
-      spare-same other before after (ap (λ b. b.disk) failed) (ap (λ b. b.store) failed)
-  spare-failed (RemoveDir site) failed =
-      spare-same other before after (ap (λ b. b.disk) failed) (ap (λ b. b.store) failed)
+  spare-failed (Write site file bytes) failed = spare-op (Write site file failed.0) (ap (λ b. b.disk) failed.1)
+      (ap (λ b. b.store) failed.1) (ap (λ b. b.keys) failed.1)
+  spare-failed (MakeDir site) failed = spare-rests other before after failed
+  spare-failed (RenameFile site from to) failed = spare-rests other before after failed
+  spare-failed (RenameDir from to) failed = spare-rests other before after failed
+  spare-failed (RemoveFile site file) failed = spare-rests other before after failed
+  spare-failed (RemoveDir site) failed = spare-rests other before after failed
 
   -- a call is on its own user's places and keys
   abbrev IsOwn : Call → Type 0
   IsOwn (OpCall at op names) = at ≡ owner
   IsOwn (Generate tag app_id) = tag.user ≡ owner
+  IsOwn (Add at class key) = at ≡ owner
   IsOwn call = Unit {0}
 
   spare-done : (call : Call) (answer : Answer) → IsOwn call → Does before after call answer
       → SpareFor other before after
   spare-done (OpCall at op names) answer own does =
       spare-op op (ap (λ b. b.disk) does.1 ∙ ap (λ u. with_op before.disk (op_of u op)) own)
-      (ap (λ b. b.store) does.1)
+      (ap (λ b. b.store) does.1) (ap (λ b. b.keys) does.1)
   spare-done Sync answer own does = record {
     places = same-tree other _ _ (ap (λ b. view b.disk) does.1);
     entries = ap (λ b. entries_of other b.store.entries) does.1;
+    keys = ap (λ b. key_of b.keys other) does.1;
   }
   spare-done ListCall answer own does =
-      spare-same other before after (ap (λ b. b.disk) does.2) (ap (λ b. b.store) does.2)
+      spare-same other before after (ap (λ b. b.disk) does.2) (ap (λ b. b.store) does.2) (ap (λ b. b.keys) does.2)
   spare-done (Read place) answer own does =
-      spare-same other before after (ap (λ b. b.disk) does.1) (ap (λ b. b.store) does.1)
+      spare-same other before after (ap (λ b. b.disk) does.1) (ap (λ b. b.store) does.1) (ap (λ b. b.keys) does.1)
   spare-done (Generate tag app_id) answer own does = record {
     places = same-tree other _ _ (ap (λ b. view b.disk) does.3);
     entries = ap (λ s. entries_of other s.entries) does.2.made
         ∙ entries-push other before.store.entries _
         (ap (λ u. u == other) own ∙ other-user owner other differ);
+    keys = ap (λ b. key_of b.keys other) does.3;
   }
   spare-done (Encrypt blob app_id nonce key) answer own does =
-      spare-same other before after (ap (λ b. b.disk) does.1) (ap (λ b. b.store) does.1)
-  spare-done Entries answer own does =
-      spare-same other before after (ap (λ b. b.disk) does.1.2) (ap (λ b. b.store) does.1.2)
+      spare-same other before after (ap (λ b. b.disk) does.1) (ap (λ b. b.store) does.1) (ap (λ b. b.keys) does.1)
+  spare-done Entries answer own does = spare-same other before after (ap (λ b. b.disk) does.1.2)
+      (ap (λ b. b.store) does.1.2) (ap (λ b. b.keys) does.1.2)
+  spare-done (Add at class key) answer own does = record {
+    places = same-tree other _ _ (ap (λ b. view b.disk) does.1);
+    entries = ap (λ b. entries_of other b.store.entries) does.1;
+    keys = ap (λ b. key_of b.keys other) does.1
+        ∙ others-keys before.keys at class key other (λ same. differ (same ∙ own));
+  }
 
   spare-undone : (call : Call) → IsOwn call → IsFailed before after call → SpareFor other before after
   spare-undone (OpCall at op names) own failed =
       spare-failed op (subst (λ u. IsFailedOp before after u op) own failed)
-  spare-undone Sync own failed = spare-same other before after (ap (λ b. b.disk) failed) (ap (λ b. b.store) failed)
-  spare-undone ListCall own failed = spare-same other before after (ap (λ b. b.disk) failed) (ap (λ b. b.store) failed)
-  spare-undone (Read place) own failed =
-      spare-same other before after (ap (λ b. b.disk) failed) (ap (λ b. b.store) failed)
-  spare-undone (Generate tag app_id) own failed =
-      spare-same other before after (ap (λ b. b.disk) failed) (ap (λ b. b.store) failed)
-  spare-undone (Encrypt blob app_id nonce key) own failed =
-      spare-same other before after (ap (λ b. b.disk) failed) (ap (λ b. b.store) failed)
-  spare-undone Entries own failed = spare-same other before after (ap (λ b. b.disk) failed) (ap (λ b. b.store) failed)
+  spare-undone Sync own failed = spare-rests other before after failed
+  spare-undone ListCall own failed = spare-rests other before after failed
+  spare-undone (Read place) own failed = spare-rests other before after failed
+  spare-undone (Generate tag app_id) own failed = spare-rests other before after failed
+  spare-undone (Encrypt blob app_id nonce key) own failed = spare-rests other before after failed
+  spare-undone Entries own failed = spare-rests other before after failed
+  spare-undone (Add at class key) own failed = spare-rests other before after failed
 
   spare-made : (call : Call) (made : Made) → IsOwn call → IsMade before after call (Ok made)
       → SpareFor other before after
@@ -157,6 +170,7 @@ module _ (book : Plain) (actor : Actor) (owner other : ℕ) (mine : actor ≡ Us
           own (Read place) stands = tt
           own (Encrypt blob app_id nonce key) stands = tt
           own Entries stands = tt
+          own (Add at class key) stands = stands.mine ∙ of-owner
       by (Recovers recovery) stands shows =
           absurd (not_boot owner (sym (ap actor_of stands.0.command) ∙ plans.on.own ∙ mine))
       by (Refusal reply) stands shows = cc

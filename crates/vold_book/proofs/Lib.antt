@@ -14,6 +14,7 @@ pub mod UserTurns
 pub mod Begun
 pub mod Worked
 pub mod Replied
+pub mod RingKept
 pub mod Stopped
 pub mod Planned
 pub mod Left

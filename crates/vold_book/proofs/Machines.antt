@@ -15,10 +15,12 @@ use Rattle.journal_model.specs.declared.commands.Command.{Command}
 use Rattle.journal_model.specs.declared.commands.Command.TheVariants.{Recover}
 use Rattle.journal_model.specs.declared.entries.Device.{Device}
 use Rattle.journal_model.specs.declared.entries.Device.TheVariants.{Tree as TreeDevice, Store as StoreDevice}
+use Rattle.journal_model.specs.declared.entries.Device.TheVariants.{Ring as RingDevice}
 use Rattle.journal_model.specs.declared.entries.Entry.TheVariants.{Stopped, Restarted}
 use Rattle.journal_model.specs.declared.entries.Order.TheVariants.{Stop}
 use Rattle.journal_model.specs.declared.phase.Phase.TheVariants.{Down, Halted}
 use Rattle.journal_model.specs.Command.{actor_of}
+use Rattle.journal_model.specs.Machine.{first_machine}
 use Rattle.journal_model.specs.Made.{boot_seed_of}
 use Rattle.user_world.specs.Timelines.{survivors}
 use Rattle.docket.specs.Docket.{empty_docket, begun_by, with_command as docket_with, with_first_command}
@@ -32,44 +34,52 @@ use Rattle.vold_book.specs.Whole.{Whole, IsWhole, faults_of}
 use Rattle.vold_book.proofs.Charged.{given-charged, stopped-charged, restarted-charged, opened-charged}
 use Rattle.vold_book.proofs.CleanTurns.{clean-given, clean-stopped, clean-restarted, clean-opened}
 use Rattle.vold_book.proofs.Numbers.{few-begun}
+use Rattle.vold_book.proofs.RingKept.{ring-empty, ring-entered, ring-emptied}
 use Rattle.vold_book.proofs.Small.{small-given, small-stopped, small-restarted, small-opened}
 use Rattle.vold_book.proofs.StepsMade.{all-changes}
 use Rattle.vold_book.proofs.Stopped.{whole-stopped, whole-given, whole-restarted, whole-opened, opened_seen}
 use Rattle.vold_book.proofs.Tracked.{log-short, count-kept}
 
 -- what each part of a Book is as it is opened over the devices
-pub record Opens {D E : Type 0} (senses : Senses D E) (tree : D) (store : E) (book : BookState (BenchState D E)) :
-    Type 0 where
+pub record Opens {D E F : Type 0} (senses : Senses D E F) (tree : D) (store : E) (ring : F)
+    (book : BookState (BenchState D E F)) : Type 0 where
   pub disk : senses.disk tree ≡ record { stable = map.empty; pending = [] }
   pub entries : senses.store store ≡ empty_store 1
+  pub keys : senses.keys ring ≡ []
   pub short : length book.seed ≤ 64
-  pub bench : book.bench ≡ new_bench tree store
-  pub opened : book.opened ≡ opened_at (senses.tree_counts tree) (senses.store_counts store)
+  pub bench : book.bench ≡ new_bench tree store ring
+  pub opened : book.opened
+      ≡ opened_at (senses.tree_counts tree) (senses.store_counts store) (senses.ring_counts ring)
   pub boot_seed : book.boot_seed ≡ boot_seed_of book.seed 0
   pub ledger : book.ledger ≡ no_ledger
   pub docket : book.docket ≡ empty_docket
   pub tracker : book.tracker ≡ new_tracker
 
 -- a Book as it is opened
-module _ {D E : Type 0} (senses : Senses D E) (tree : D) (store : E) (book : BookState (BenchState D E)) where
-  pub opened-whole : Opens senses tree store book → IsWhole senses book
+module _ {D E F : Type 0} (senses : Senses D E F) (tree : D) (store : E) (ring : F)
+    (book : BookState (BenchState D E F)) where
+  pub opened-whole : Opens senses tree store ring book → IsWhole senses book
   opened-whole opens =
       let tree_counts = senses.tree_counts tree in
       let store_counts = senses.store_counts store in
-      let bench : Seen = opened_seen tree_counts store_counts in
-      let plain : Whole (new_book bench (opened_at tree_counts store_counts) book.seed) =
-      whole-opened tree_counts store_counts book.seed (record {
+      let ring_counts = senses.ring_counts ring in
+      let bench : Seen = opened_seen tree_counts store_counts ring_counts in
+      let plain : Whole (new_book bench (opened_at tree_counts store_counts ring_counts) book.seed) =
+      whole-opened tree_counts store_counts ring_counts book.seed (record {
         short = opens.short;
         seeded = refl;
         store = store-empty 1;
         level = refl;
-        clean = clean-opened bench (opened_at tree_counts store_counts) book.seed refl refl;
-        small = small-opened bench (opened_at tree_counts store_counts) book.seed 1 refl refl refl;
+        ring = ring-empty book.seed first_machine refl;
+        clean = clean-opened bench (opened_at tree_counts store_counts ring_counts) book.seed refl refl;
+        small = small-opened bench (opened_at tree_counts store_counts ring_counts) book.seed 1 refl refl refl;
         charged = opened-charged bench book.seed;
       }) in
-      let is_seen : bench_seen senses (new_bench tree store) ≡ bench =
-      λ i. record bench { disk = opens.disk i; store = opens.entries i } in
-      let is : book ≡ new_book (new_bench tree store) (opened_at tree_counts store_counts) book.seed = λ i. record {
+      let is_seen : bench_seen senses (new_bench tree store ring) ≡ bench =
+      λ i. record bench { disk = opens.disk i; store = opens.entries i; keys = opens.keys i } in
+      let is : book
+      ≡ new_book (new_bench tree store ring) (opened_at tree_counts store_counts ring_counts) book.seed =
+      λ i. record {
         bench = opens.bench i;
         opened = opens.opened i;
         seed = book.seed;
@@ -79,16 +89,18 @@ module _ {D E : Type 0} (senses : Senses D E) (tree : D) (store : E) (book : Boo
         tracker = opens.tracker i;
       } in
       subst (IsWhole senses) (sym is)
-      (subst (λ b. Whole (new_book b (opened_at tree_counts store_counts) book.seed)) (sym is_seen) plain)
+      (subst (λ b. Whole (new_book b (opened_at tree_counts store_counts ring_counts) book.seed)) (sym is_seen) plain)
 
 -- what each part of a Book is once the machine stopped: the ledger had its room by then, and the cut was copied
-pub record Stops {D E : Type 0} (senses : Senses D E) (before after : BookState (BenchState D E)) (cut : Cut) :
+pub record Stops {D E F : Type 0} (senses : Senses D E F) (before after : BookState (BenchState D E F)) (cut : Cut) :
     Type 0 where
   pub kept : ℕ
   pub copied : Cut
   pub reserved : LedgerState
   pub left : senses.disk after.bench.tree ≡ stopped (senses.disk before.bench.tree) cut.keep cut.fills
   pub counts : senses.tree_counts after.bench.tree ≡ senses.tree_counts before.bench.tree
+  pub keys : senses.keys after.bench.ring ≡ []
+  pub ring_counts : senses.ring_counts after.bench.ring ≡ senses.ring_counts before.bench.ring
   pub list : after.bench.list ≡ unlisted before.bench.list
   pub is_kept : kept ≡ before.tracker.durable + count_changes
       (take (min cut.keep (length before.tracker.pending)) before.tracker.pending)
@@ -102,15 +114,15 @@ pub record Stops {D E : Type 0} (senses : Senses D E) (before after : BookState 
   pub halted : after.tracker ≡ record before.tracker { phase = Halted; durable = kept; pending = [] }
   -- and the rest stays
   pub rest : after ≡ record before {
-    bench = record before.bench { tree = after.bench.tree; list = after.bench.list };
+    bench = record before.bench { tree = after.bench.tree; ring = after.bench.ring; list = after.bench.list };
     ledger = after.ledger;
     docket = after.docket;
     tracker = after.tracker;
   }
 
 -- what each part of a Book is once the machine started again
-pub record Restarts {D E : Type 0} (senses : Senses D E) (before after : BookState (BenchState D E)) (level : ℕ) :
-    Type 0 where
+pub record Restarts {D E F : Type 0} (senses : Senses D E F) (before after : BookState (BenchState D E F))
+    (level : ℕ) : Type 0 where
   pub boot : ℕ
   pub reserved : LedgerState
   pub queued : Docket
@@ -132,7 +144,8 @@ pub record Restarts {D E : Type 0} (senses : Senses D E) (before after : BookSta
     tracker = after.tracker;
   }
 
-module _ {D E : Type 0} (senses : Senses D E) (book : BookState (BenchState D E)) (whole : IsWhole senses book) where
+module _ {D E F : Type 0} (senses : Senses D E F) (book : BookState (BenchState D E F))
+    (whole : IsWhole senses book) where
   abbrev plain : Plain
   plain = seen senses book
 
@@ -159,6 +172,7 @@ module _ {D E : Type 0} (senses : Senses D E) (book : BookState (BenchState D E)
         seeded = whole.seeded;
         store = whole.store;
         level = whole.level;
+        ring = whole.ring;
         clean = clean-given plain command whole;
         small = small-given plain whole.small command;
         charged = λ device. given-charged plain device (whole.charged device) command;
@@ -177,7 +191,7 @@ module _ {D E : Type 0} (senses : Senses D E) (book : BookState (BenchState D E)
       subst (λ d. IsWhole senses (record book { docket = d })) (sym refused) whole
 
   -- the machine stopped
-  module _ (after : BookState (BenchState D E)) (cut : Cut) where
+  module _ (after : BookState (BenchState D E F)) (cut : Cut) where
     pub stopped-book : Stops senses book after cut → IsStopped senses book after cut
     stopped-book stops =
         let kept = stops.kept in
@@ -209,6 +223,8 @@ module _ {D E : Type 0} (senses : Senses D E) (book : BookState (BenchState D E)
             tree_counts = stops.counts i;
             store = senses.store (stops.rest i).bench.store;
             store_counts = senses.store_counts (stops.rest i).bench.store;
+            keys = stops.keys i;
+            ring_counts = stops.ring_counts i;
             places = (stops.rest i).bench.places;
             list = stops.list i;
           };
@@ -219,6 +235,7 @@ module _ {D E : Type 0} (senses : Senses D E) (book : BookState (BenchState D E)
     stops-whole running is_stopped =
         let left : Seen = record plain.bench {
           disk = stopped plain.bench.disk cut.keep cut.fills;
+          keys = [];
           list = unlisted plain.bench.list;
         } in
         let kept = survivors (timeline (senses.disk book.bench.tree) (machine_of book)) cut.keep in
@@ -227,6 +244,7 @@ module _ {D E : Type 0} (senses : Senses D E) (book : BookState (BenchState D E)
           seeded = whole.seeded;
           store = whole.store;
           level = whole.level;
+          ring = ring-emptied plain (Stopped kept) refl;
           clean = clean-stopped plain left cut kept refl;
           small = small-stopped plain whole.small left cut kept refl refl refl;
           charged = λ device. stopped-charged plain device (whole.charged device) left cut kept (same-faults device);
@@ -236,13 +254,15 @@ module _ {D E : Type 0} (senses : Senses D E) (book : BookState (BenchState D E)
       where
         same-faults : (device : Device) → faults_of (record plain.bench {
           disk = stopped plain.bench.disk cut.keep cut.fills;
+          keys = [];
           list = unlisted plain.bench.list;
         }) device ≡ faults_of plain.bench device
         same-faults TreeDevice = refl
         same-faults StoreDevice = refl
+        same-faults RingDevice = refl
 
   -- the machine started again
-  module _ (after : BookState (BenchState D E)) (level : ℕ) where
+  module _ (after : BookState (BenchState D E F)) (level : ℕ) where
     pub restarted-book : Restarts senses book after level → IsRestarted senses book after level
     restarted-book restarts = record {
       same = λ i. record {
@@ -250,6 +270,8 @@ module _ {D E : Type 0} (senses : Senses D E) (book : BookState (BenchState D E)
         tree_counts = restarts.same_counts i;
         store = senses.store (restarts.rest i).bench.store;
         store_counts = senses.store_counts (restarts.rest i).bench.store;
+        keys = senses.keys (restarts.rest i).bench.ring;
+        ring_counts = senses.ring_counts (restarts.rest i).bench.ring;
         places = (restarts.rest i).bench.places;
         list = (restarts.rest i).bench.list;
       };
@@ -281,6 +303,7 @@ module _ {D E : Type 0} (senses : Senses D E) (book : BookState (BenchState D E)
           seeded = refl;
           store = whole.store;
           level = whole.level ∙ sym same_level;
+          ring = ring-entered plain (Restarted (book.tracker.boot + 1) level) refl refl whole.ring;
           clean = clean-restarted plain plain.bench level whole refl;
           small = small-restarted plain whole.small plain.bench level refl;
           charged = λ device. restarted-charged plain device (whole.charged device) plain.bench level refl;

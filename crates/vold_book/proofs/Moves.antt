@@ -31,6 +31,7 @@ use Rattle.bench.specs.Known.{Knows}
 use Rattle.vold_book.specs.declared.tasks.Running.{Running}
 use Rattle.vold_book.specs.declared.tasks.Task.{Task}
 use Rattle.vold_book.specs.Entries.{entry_of, machine_with, may_with, made_entry}
+use Rattle.vold_book.specs.Installed.{RingStands}
 use Rattle.vold_book.specs.Parts.{TrackerState, Agrees, with_entry, noted}
 use Rattle.vold_book.specs.State.{Plain, Ground, machine_of, timeline, ground_at, ground_of, vault_of}
 use Rattle.vold_book.specs.Tasks.{TaskStands, RunsOn, HoldsOwn, held_in}
@@ -48,12 +49,13 @@ pub record Core (book : Plain) (machine : Machine) : Type 0 where
   pub all : AllRun machine book.docket.running
   pub phase : PhaseStands book.tracker.phase book machine
 
--- what stands of it whatever the machine is
+-- what else stands of it
 pub record Steady (book : Plain) : Type 0 where
   pub short : length book.seed ≤ 64
   pub seeded : book.boot_seed ≡ boot_seed_of book.seed book.tracker.boot
   pub store : IsStore book.bench.store
   pub level : book.bench.store.level ≡ book.tracker.level
+  pub ring : RingStands book.seed book.bench.keys (machine_of book)
   pub clean : IsClean (custody_of book)
   pub small : IsSmall book
   pub charged : (device : Device) → IsCharged book device
@@ -71,6 +73,7 @@ whole-of book machine is legal steady core =
       images = line-images (sealed (vault_of book.seed book.bench.store))
           (timeline book.bench.disk (machine_of book)) here.worlds;
       worlds = here.worlds;
+      ring = steady.ring;
       numbers = here.numbers;
       run = here.run;
       all = here.all;

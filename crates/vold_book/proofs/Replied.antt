@@ -1,12 +1,15 @@
 -- A turn that gives a reply keeps a Book whole.
 use Rattle.std.proofs.Common.{◌≡◌, ◌≢◌, ℕ, ◌+◌, inl, inr, [], ◌∷◌, ◌++◌, refl, sym, ap, ◌∙◌, subst}
 use Rattle.std.proofs.lemmas.Option.{none-some, same_Some}
-use Rattle.std.specs.Prelude.{◌⊎◌, Some, None, IsSomeAnd, Contains, slice_get}
+use Rattle.std.specs.Prelude.{◌⊎◌, Some, None, IsSome, IsSomeAnd, Contains, slice_get}
 use Rattle.std.specs.Cmp.{nat_cmp_total}
 use Rattle.std.specs.FinMap as map
 use Rattle.std.specs.FinMap.{nat_cmp-IsAntisymmetric}
 use Rattle.tree_model.specs.Disk.{view}
 use Rattle.tree_model.proofs.Maps.{get-remove_same, get-remove_other}
+use Rattle.tree_model.specs.declared.places.Class.{Class}
+use Rattle.key_ring.specs.Ring.{has_owner, key_of}
+use Rattle.key_ring.proofs.Owners.{found}
 use Rattle.journal_model.specs.declared.commands.Actor.{Actor}
 use Rattle.journal_model.specs.declared.commands.Reply.{Reply}
 use Rattle.journal_model.specs.declared.commands.Reply.TheVariants.{Ended}
@@ -17,7 +20,7 @@ use Rattle.journal_model.specs.Actor.{actor_cmp, actor_total, actor_exact}
 use Rattle.journal_model.specs.Command.{actor_of}
 use Rattle.journal_model.specs.Machine.{Machine, Running as BeganCommand, after_entry, if_running, phase_after}
 use Rattle.journal_model.specs.Machine.{IsDurable, kind_of_reply, Success, Refusal as RefusalKind}
-use Rattle.journal_model.specs.Machine.{AllowsSuccess, MayEnd, Succeeds, AllowsReply}
+use Rattle.journal_model.specs.Machine.{AllowsSuccess, MayEnd, Succeeds, AllowsReply, HasKey}
 use Rattle.journal_model.proofs.ByCommand.{phase-stays, success-more, user-stays}
 use Rattle.journal_model.proofs.Steps.{machine_after-append, legal-append}
 use Rattle.task_turns.specs.declared.next.Next.TheVariants.{Reply as ReplyNext}
@@ -26,19 +29,20 @@ use Rattle.user_world.specs.Timelines.{own_of}
 use Rattle.user_world.specs.Turns.{IsLogged, AreDurable}
 use Rattle.user_world.proofs.Timelines.{logged-shown, durable-shown}
 use Rattle.user_world.proofs.Worlds.{owned-change}
+use Rattle.task_turns.specs.Turns.{KeyIsIn}
 use Rattle.user_tasks.specs.Tasks.{user_of}
 use Rattle.vold_book.specs.declared.tasks.Running.{Running}
 use Rattle.vold_book.specs.declared.tasks.Task.{Task}
 use Rattle.vold_book.specs.declared.tasks.Task.TheVariants.{User as Using, Recovery as Recovers, Refusal, Fault}
 use Rattle.journal_model.specs.declared.entries.Device.{Device}
-use Rattle.journal_model.specs.declared.entries.Device.TheVariants.{Tree, Store}
+use Rattle.journal_model.specs.declared.entries.Device.TheVariants.{Tree, Store, Ring}
 use Rattle.bench.specs.Bench.{listed}
 use Rattle.vold_book.specs.Recovery.{IsSettled, AllPlaced}
 use Rattle.vold_book.specs.Turns.{IsTidied}
 use Rattle.blob_custody.specs.Custody.{IsListed}
 use Rattle.vold_book.proofs.Custodies.{relisted}
 use Rattle.journal_model.specs.declared.commands.Command.{Command}
-use Rattle.vold_book.specs.State.{Plain, Ground, machine_of, timeline, ground_of}
+use Rattle.vold_book.specs.State.{Plain, Ground, machine_of, timeline, ground_of, share_of}
 use Rattle.vold_book.specs.Tasks.{TaskStands, RunsOn, TaskShows, Plans, lists_with, fault_of}
 use Rattle.vold_book.specs.Whole.{PhaseStands, AllRun, Whole}
 use Rattle.vold_book.proofs.Moves.{Steady, whole-of, runs_apart}
@@ -92,6 +96,11 @@ module _ (book : Plain) (actor : Actor) (it : Running) (now : Task) (reply : Rep
   durable-down down =
       (subst (λ phase. PhaseStands phase book machine) (sym whole.agrees.phase ∙ down) whole.phase).0
 
+  -- the machine knows of a key in the ring
+  key-shown : (user : ℕ) (class : Class) → IsSome (key_of book.bench.keys user class) → HasKey machine user class
+  key-shown user class has =
+      ap (λ all. has_owner all user class) whole.ring.owned ∙ found book.bench.keys user class ∙ has
+
   -- whatever the task, the reply may be given
   ends : Ends
   ends = by now refl (stands-now book actor it now (ReplyNext reply) plans) plans.shows
@@ -105,10 +114,12 @@ module _ (book : Plain) (actor : Actor) (it : Running) (now : Task) (reply : Rep
                 none-allows stands.accepted
                 (subst (λ kind. MayEnd kind (Succeeds machine began reply)) (sym shows.success)
                 (success-more (IsLogged user (own_of user line)) _ (AreDurable user (own_of user line))
-                (IsDurable machine) (λ change logged. subst (Contains machine.log) (owned-change change user logged.0)
+                (IsDurable machine) (KeyIsIn user (share_of user (ground_of book))) (HasKey machine)
+                (λ change logged. subst (Contains machine.log) (owned-change change user logged.0)
                 (logged-shown user _ line whole.worlds.shows (local_of change) logged.1))
                 (λ of durable. subst (IsDurable machine) (sym durable.0)
                 (durable-shown user _ line whole.worlds.shows durable.1))
+                (λ owner class has. subst (λ o. HasKey machine o class) (sym has.0) (key-shown user class has.1))
                 machine.boot began began.command reply shows.may));
             goes = inl (user-stays machine.phase user began.command reply stands.of_user);
           }
@@ -117,7 +128,8 @@ module _ (book : Plain) (actor : Actor) (it : Running) (now : Task) (reply : Rep
             may =
                 none-allows stands.0.verdict
                 (subst (λ r. MayEnd (kind_of_reply r) (Succeeds machine began r)) (sym shows.ended)
-                (subst (λ c. AllowsSuccess (Contains machine.log) (IsDurable machine) machine.boot began c (Ended 0))
+                (subst (λ c. AllowsSuccess (Contains machine.log) (IsDurable machine) (HasKey machine) machine.boot
+                began c (Ended 0))
                 (sym stands.0.command) (refl, durable)));
             goes = inr (record {
               up = ap (λ r. phase_after machine.phase began.command r) shows.ended
@@ -149,10 +161,12 @@ module _ (book : Plain) (actor : Actor) (it : Running) (now : Task) (reply : Rep
               (Succeeds machine began (fault_of device))
           may-fault Tree = tt
           may-fault Store = tt
+          may-fault Ring = tt
 
           fault_success : (device : Device) → kind_of_reply (fault_of device) ≡ Success → ⊥
           fault_success Tree e = cc
           fault_success Store e = cc
+          fault_success Ring e = cc
 
   abbrev machine' : Machine
   machine' = after_entry book.ledger.entries machine (Replied it.number reply)

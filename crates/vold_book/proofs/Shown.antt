@@ -17,6 +17,7 @@ use Rattle.journal_model.specs.declared.commands.Actor.{Actor}
 use Rattle.journal_model.specs.declared.commands.Reply.{Reply}
 use Rattle.journal_model.specs.declared.entries.Device.{Device}
 use Rattle.journal_model.specs.declared.entries.Device.TheVariants.{Tree as TreeDevice, Store as StoreDevice}
+use Rattle.journal_model.specs.declared.entries.Device.TheVariants.{Ring as RingDevice}
 use Rattle.journal_model.specs.Machine.{Running as Began, kind_of_reply, Success}
 use Rattle.journal_model.specs.Machine.{Refusal as RefusalKind, Fault as FaultKind}
 use Rattle.keystore_model.specs.Store.{IsStore, entry_of}
@@ -29,7 +30,7 @@ use Rattle.task_turns.specs.declared.calls.Answer.{Answer}
 use Rattle.task_turns.specs.declared.calls.Answer.TheVariants.{Blob as IsBlob, Sealed}
 use Rattle.task_turns.specs.declared.calls.Call.{Call}
 use Rattle.task_turns.specs.declared.calls.Call.TheVariants.{Op as OpCall, Sync, List as ListCall, Read}
-use Rattle.task_turns.specs.declared.calls.Call.TheVariants.{Generate, Encrypt, Entries}
+use Rattle.task_turns.specs.declared.calls.Call.TheVariants.{Generate, Encrypt, Entries, Add}
 use Rattle.task_turns.specs.declared.next.Next.TheVariants.{Call as CallNext, Reply as ReplyNext}
 use Rattle.task_turns.specs.Turns.{Scene, Cost, cost_of, no_cost, CallStands}
 use Rattle.bench.specs.declared.made.Made.{Made}
@@ -153,6 +154,12 @@ module _ (before after : Seen) (store : IsStore before.store) (task : UserTask) 
         makes = stands.1.leads.makes;
         draws = stands.1.leads.draws;
       })
+  user-falls (Add owner class key) same stands does =
+      subst (λ a. UserFalls task (tasks.after task a) no_cost) (sym does.0) (record {
+        turns = stands.leads.falls;
+        makes = stands.leads.makes;
+        draws = stands.leads.draws;
+      })
   user-falls Entries same stands does = absurd stands
 
 -- an operation of a recovery makes no directory, since it makes nothing that its turns don't count
@@ -243,6 +250,7 @@ module _ (book : Plain) (after : Seen) (recovery : Recovery) (answer : Answer)
       (let few = lists-few (recovery_after (Read place) recovery) in omega (arith, few))
   recovery-falls (Generate tag app_id) shows does = absurd shows
   recovery-falls (Encrypt blob app_id nonce key) shows does = absurd shows
+  recovery-falls (Add user class key) shows does = absurd shows
   recovery-falls Entries shows does =
       comes-falls book.bench.places after.places recovery answer lasts Entries book.bench.places
       (ap (λ b. b.places) does.1.2) (shows.comes does.1.0 does.1.1).falls refl refl (omega arith)
@@ -292,6 +300,7 @@ module _ (book : Plain) (began : Began) (call : Call) (change : Option LocalChan
         lists-none scene task (Read place) stands = absurd stands
         lists-none scene task (Generate tag app_id) stands = refl
         lists-none scene task (Encrypt blob app_id nonce key) stands = refl
+        lists-none scene task (Add owner class key) stands = refl
         lists-none scene task Entries stands = absurd stands
     heard-falls answer (Recovers recovery) then whole shows does is =
         subst (CallFalls book.bench.places after.places call (Heard answer) (Recovers recovery)) (sym is)
@@ -376,12 +385,18 @@ module _ (book : Plain) (actor : Actor) (it : Running) (making : Making)
 fault-device : (device failed : Device) → fault_of failed ≡ fault_of device → failed ≡ device
 fault-device TreeDevice TreeDevice same = refl
 fault-device TreeDevice StoreDevice same = cc
+fault-device TreeDevice RingDevice same = cc
 fault-device StoreDevice TreeDevice same = cc
 fault-device StoreDevice StoreDevice same = refl
+fault-device StoreDevice RingDevice same = cc
+fault-device RingDevice TreeDevice same = cc
+fault-device RingDevice StoreDevice same = cc
+fault-device RingDevice RingDevice same = refl
 
 fault-kind : (device : Device) → kind_of_reply (fault_of device) ≡ FaultKind
 fault-kind TreeDevice = refl
 fault-kind StoreDevice = refl
+fault-kind RingDevice = refl
 
 pub next_reply : (reply other : Reply) → ReplyNext reply ≡ ReplyNext other → reply ≡ other
 next_reply reply other same = cc

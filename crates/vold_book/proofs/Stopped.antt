@@ -60,6 +60,7 @@ module _ (book : Plain) (whole : Whole book) where
     halted =
         after_stop book (record book.bench {
           disk = stopped book.bench.disk cut.keep cut.fills;
+          keys = [];
           list = unlisted book.bench.list;
         }) cut survived
 
@@ -135,6 +136,7 @@ module _ (book : Plain) (whole : Whole book) where
       level = steady.level;
       images = whole.images;
       worlds = whole.worlds;
+      ring = steady.ring;
       numbers = numbers-given;
       run = whole.run;
       all = whole.all;
@@ -220,20 +222,23 @@ module _ (book : Plain) (whole : Whole book) where
         })
 
 -- what is seen of the devices as a Book is opened
-abbrev pub opened_seen : Counts → Counts → Seen
-opened_seen tree_counts store_counts = record {
+abbrev pub opened_seen : Counts → Counts → Counts → Seen
+opened_seen tree_counts store_counts ring_counts = record {
   disk = record { stable = map.empty; pending = [] };
   tree_counts = tree_counts;
   store = empty_store 1;
   store_counts = store_counts;
+  keys = [];
+  ring_counts = ring_counts;
   places = map.empty;
   list = record { items = []; next = 0; promised = 0 };
 }
 
 -- a Book as it is opened
-module _ (tree_counts store_counts : Counts) (seed : List ℕ) where
+module _ (tree_counts store_counts ring_counts : Counts) (seed : List ℕ) where
   abbrev opened : Plain
-  opened = new_book (opened_seen tree_counts store_counts) (opened_at tree_counts store_counts) seed
+  opened =
+      new_book (opened_seen tree_counts store_counts ring_counts) (opened_at tree_counts store_counts ring_counts) seed
 
   abbrev meaning : Meaning
   meaning = sealed (vault_of seed (empty_store 1))

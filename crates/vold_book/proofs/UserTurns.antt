@@ -17,6 +17,9 @@ use Rattle.deferred_delete.specs.Deferral.{noted as items_noted}
 use Rattle.tree_model.specs.Parts.{part_of, LocalFits}
 use Rattle.tree_model.specs.Sites.{op_of}
 use Rattle.tree_model.proofs.Maps.{get-insert_same, get-insert_other}
+use Rattle.tree_model.specs.declared.places.Class.{Class}
+use Rattle.key_ring.specs.Ring.{key_of, installed}
+use Rattle.key_ring.proofs.Owners.{others-keys, keys-added}
 use Rattle.journal_model.specs.declared.commands.Actor.{Actor}
 use Rattle.journal_model.specs.declared.commands.Actor.TheVariants.{Boot, User}
 use Rattle.journal_model.specs.declared.entries.Entry.TheVariants.{Changed}
@@ -24,14 +27,15 @@ use Rattle.journal_model.specs.declared.phase.Phase.{Phase}
 use Rattle.journal_model.specs.declared.phase.Phase.TheVariants.{Up, Down}
 use Rattle.journal_model.specs.Command.{actor_of}
 use Rattle.journal_model.specs.Machine.{Machine, Running as BeganCommand, after_entry}
-use Rattle.journal_model.specs.Machine.{if_running, with_change, AllowsChange}
+use Rattle.journal_model.specs.Machine.{if_running, with_change, AllowsChange, Installs}
 use Rattle.user_world.specs.declared.changes.LocalChange.{LocalChange}
 use Rattle.user_world.specs.Changes.{change_of, if_noted}
 use Rattle.user_world.specs.Facts.{Later}
 use Rattle.user_world.specs.OwnWorlds.{Step}
 use Rattle.user_world.specs.Timelines.{Timeline, own_of, line_with, settled_line, OwnWorldsStand, LeadsTo}
 use Rattle.user_world.specs.Turns.{with_note}
-use Rattle.user_world.proofs.Timelines.{line-step, line-settled, own-synced, own-operated, view-shown, line-images}
+use Rattle.user_world.proofs.Timelines.{line-step, line-settled, own-synced, own-operated, view-shown, known-shown}
+use Rattle.user_world.proofs.Timelines.{line-images}
 use Rattle.keystore_model.specs.declared.entry.StoreEntry.{StoreEntry}
 use Rattle.keystore_model.specs.declared.entry.Tag.{Tag}
 use Rattle.keystore_model.specs.Store.{Store, Differ, entry_of, IsGenerated, new_entry, generated as generated_store}
@@ -47,11 +51,11 @@ use Rattle.task_turns.specs.declared.calls.Answer.{Answer}
 use Rattle.task_turns.specs.declared.calls.Call.{Call}
 use Rattle.task_turns.specs.Shares.{AllHas, AreHeld}
 use Rattle.task_turns.specs.Turns.{Rests, AllOwned, Scene, Leads, cost_of, OpShows, SyncShows, GenerateShows}
-use Rattle.task_turns.specs.Turns.{EncryptShows}
+use Rattle.task_turns.specs.Turns.{EncryptShows, AddShows}
 use Rattle.task_turns.specs.Turns.{operated, IsOwned, BlobShows, CallShows}
 use Rattle.task_turns.specs.declared.calls.Answer.TheVariants.{Done, Blob as IsBlob, Sealed}
 use Rattle.task_turns.specs.declared.calls.Call.TheVariants.{Op as OpCall, Sync, Generate, Encrypt}
-use Rattle.task_turns.specs.declared.calls.Call.TheVariants.{List as ListCall, Read, Entries}
+use Rattle.task_turns.specs.declared.calls.Call.TheVariants.{List as ListCall, Read, Entries, Add}
 use Rattle.task_turns.proofs.Lasting.{facts-last}
 use Rattle.bench.specs.declared.made.Made.TheVariants.{Heard, Failed}
 use Rattle.bench.specs.Bench.{Plain as Seen, Does, Fits, IsFailed, IsFailedOp, IsMade, Rests as AllRests, places_after}
@@ -70,9 +74,10 @@ use Rattle.vold_book.specs.State.{Plain, Ground, machine_of, timeline, ground_at
 use Rattle.vold_book.specs.Tasks.{TaskStands, RunsOn, HoldsOwn, blobs_in, scene_of}
 use Rattle.vold_book.specs.Whole.{PhaseStands, Whole}
 use Rattle.vold_book.proofs.Moves.{After, after_of, Moves, machine_then, ground_then, holds-on}
-use Rattle.vold_book.proofs.Numbers.{IsQuiet, quiet-changed, quiet-synced}
+use Rattle.vold_book.proofs.Numbers.{IsQuiet, quiet-changed, quiet-synced, quiet-installed}
 use Rattle.vold_book.proofs.StepsMade.{Keeps, same-line, step-fits, step-told, step-failed, failed-disk, all-changes}
 use Rattle.vold_book.proofs.Tracked.{ChangeIsTold, pending-noted, noted-stays, failed-durable}
+use Rattle.bench.proofs.Failures.{failed-keys}
 use Rattle.bench.proofs.Known.{knows-view, knows-failed}
 use Rattle.task_turns.specs.Names.{BringsBlob}
 use Rattle.user_world.specs.Meaning.{Meaning}
@@ -83,13 +88,14 @@ not_boot user e = cc
 pub same_user : (a b : ℕ) → User a ≡ User b → a ≡ b
 same_user a b e = cc
 
--- what a change of the ground leaves for commands of other users: no entry is lost, the level stays, and their own
--- worlds stay or are settled
+-- what a change of the ground leaves for commands of other users: no entry is lost, the level and their keys in the
+-- ring stay, and their own worlds stay or are settled
 pub record LeavesGround (before after : Ground) (user : ℕ) : Type 0 where
   pub boot : after.boot ≡ before.boot
   pub level : after.vault.level ≡ before.vault.level
   pub seed : after.vault.seed ≡ before.vault.seed
   pub kept : (blob : Blob) → KeepsEntry before.vault after.vault blob
+  pub keys : (other : ℕ) → other ≢ user → key_of after.keys other ≡ key_of before.keys other
   pub others : (other : ℕ) → other ≢ user → Later (own_of other before.line) (own_of other after.line)
 
 -- a task of another user rests there still
@@ -105,6 +111,7 @@ rests-still before after user task began leaves differ rests = record {
     own = leaves.others (user_of task) differ;
     level = leaves.level;
     seed = leaves.seed;
+    keys = leaves.keys (user_of task) differ;
     kept = λ blob is. leaves.kept blob;
   }) rests.known rests.facts;
   known = rests.known;
@@ -330,6 +337,7 @@ module _ (book : Plain) (actor : Actor) (number : ℕ) (task : UserTask) (whole 
           ∙ own-operated (sealed (vault_of book.seed book.bench.store)) line user step whole.worlds
           shows.step.noted) i;
       vault = vault_of book.seed (same_store i);
+      keys = key_of (ap (λ b. b.keys) done i) user;
     }
 
     at-noted : (change : Option LocalChange)
@@ -393,6 +401,7 @@ module _ (book : Plain) (actor : Actor) (number : ℕ) (task : UserTask) (whole 
         level = ap (λ s. s.level) same_store;
         seed = refl;
         kept = λ blob entry live. ap (λ s. entry_of s.entries blob) same_store ∙ live;
+        keys = λ other differ. ap (λ b. key_of b.keys other) done;
         others = λ other differ. subst (λ l. Later (own_of other line) (own_of other l)) (sym is-line)
             (led.others other differ);
       };
@@ -457,6 +466,7 @@ module _ (book : Plain) (actor : Actor) (number : ℕ) (task : UserTask) (whole 
         level = ap (λ b. b.store.level) done;
         seed = refl;
         kept = λ blob entry live. ap (λ b. entry_of b.store.entries blob) done ∙ live;
+        keys = λ other differ. ap (λ b. key_of b.keys other) done;
         others = λ other differ. inr (ap (own_of other) sync-line ∙ own-synced meaning line other whole.worlds);
       };
       worlds = subst (λ l. OwnWorldsStand (sealed (vault_of book.seed bench.store)) l) (sym sync-line)
@@ -465,6 +475,7 @@ module _ (book : Plain) (actor : Actor) (number : ℕ) (task : UserTask) (whole 
       facts = subst (AllHas (rest_of (heard Done)).facts) (sym (λ i. record {
         own = (ap (own_of user) sync-line ∙ own-synced meaning line user whole.worlds) i;
         vault = vault_of book.seed (ap (λ b. b.store) done i);
+        keys = key_of (ap (λ b. b.keys) done i) user;
       })) shows.leads.facts;
       known = shows.leads.known;
       owned = subst (λ b. AllOwned b.store.entries user (rest_of (heard Done)).held) (sym done)
@@ -511,7 +522,7 @@ module _ (book : Plain) (actor : Actor) (number : ℕ) (task : UserTask) (whole 
       pub kept : (blob : Blob) → KeepsEntry (vault_of book.seed book.bench.store) (vault_of book.seed store) blob
       pub worlds : OwnWorldsStand (sealed (vault_of book.seed store)) line
       pub leads : Leads tasks task answer scene None (cost_of call)
-          (record { own = own_of user line; vault = vault_of book.seed store })
+          (record { own = own_of user line; vault = vault_of book.seed store; keys = key_of book.bench.keys user })
       pub owned : AllOwned store.entries user (rest_of (heard answer)).held
       pub differ : Differ (rest_of (heard answer)).held
 
@@ -530,6 +541,7 @@ module _ (book : Plain) (actor : Actor) (number : ℕ) (task : UserTask) (whole 
           seed = refl;
           kept = λ blob entry live.
               ap (λ b. entry_of b.store.entries blob) same ∙ led.kept blob entry live;
+          keys = λ other differ. ap (λ b. key_of b.keys other) same;
           others = λ other differ. inl (ap (own_of other) line-same);
         };
         worlds = subst (λ l. OwnWorldsStand (sealed (vault_of book.seed bench.store)) l) (sym line-same)
@@ -537,6 +549,7 @@ module _ (book : Plain) (actor : Actor) (number : ℕ) (task : UserTask) (whole 
         facts = subst (AllHas (rest_of (heard answer)).facts) (sym (λ i. record {
           own = ap (own_of user) line-same i;
           vault = vault_of book.seed (ap (λ b. b.store) same i);
+          keys = key_of (ap (λ b. b.keys) same i) user;
         })) led.leads.facts;
         known = led.leads.known;
         owned = subst (λ b. AllOwned b.store.entries user (rest_of (heard answer)).held) (sym same) led.owned;
@@ -643,6 +656,71 @@ module _ (book : Plain) (actor : Actor) (number : ℕ) (task : UserTask) (whole 
         differ = differ-still (heard answer) (inl shows.held);
       })
 
+  -- a key comes into the ring
+  module _ (class : Class) (key : List ℕ) (shows : AddShows tasks task scene user class key None) (bench : Seen)
+      (done : bench ≡ record book.bench {
+        keys = installed book.bench.keys user class key;
+        ring_counts = bench.ring_counts;
+      }) where
+    abbrev add_after : After
+    add_after = heard_after (Add user class key) Done bench
+
+    add-line : timeline bench.disk (machine_then book add_after) ≡ line
+    add-line = ap (λ b. timeline b.disk machine) done
+
+    add-leads : LeadsOn (heard Done) on.began add_after
+    add-leads = record {
+      leaves = record {
+        boot = refl;
+        level = ap (λ b. b.store.level) done;
+        seed = refl;
+        kept = λ blob entry live. ap (λ b. entry_of b.store.entries blob) done ∙ live;
+        keys = λ other differ. ap (λ b. key_of b.keys other) done
+            ∙ others-keys book.bench.keys user class key other differ;
+        others = λ other differ. inl (ap (own_of other) add-line);
+      };
+      worlds = subst (λ l. OwnWorldsStand (sealed (vault_of book.seed bench.store)) l) (sym add-line)
+          (subst (λ b. OwnWorldsStand (sealed (vault_of book.seed b.store)) line) (sym done) whole.worlds);
+      facts = subst (AllHas (rest_of (heard Done)).facts) (sym (λ i. record {
+        own = ap (own_of user) add-line i;
+        vault = vault_of book.seed (ap (λ b. b.store) done i);
+        keys = (ap (λ b. key_of b.keys user) done
+            ∙ (λ j kind. keys-added book.bench.keys user class key kind j)) i;
+      })) shows.leads.facts;
+      known = shows.leads.known;
+      owned = subst (λ b. AllOwned b.store.entries user (rest_of (heard Done)).held) (sym done)
+          (owned-still (heard Done) (inl shows.held));
+      differ = differ-still (heard Done) (inl shows.held);
+      at = on.at;
+      on_machine = λ n differ. refl;
+      command = refl;
+      verdict = refl;
+      serves = shows.leads.serves;
+      same_user = shows.leads.same_user;
+      is_task = refl;
+      may = (
+        ap is_some (sym (known-shown user _ line whole.worlds.shows) ∙ shows.given.there),
+        (
+          number,
+          subst (λ found. IsSomeAnd found (λ b. (b.verdict ≡ None) × Installs b.command user class))
+              (sym on.at) (on.stands.accepted, shows.may),
+        ),
+      );
+      quiet = quiet-installed user class;
+      agrees = record {
+        phase = whole.agrees.phase;
+        boot = whole.agrees.boot;
+        level = whole.agrees.level;
+        durable = whole.agrees.durable;
+        pending = whole.agrees.pending ∙ ap (λ b. changes_made b.disk.stable b.disk.pending) (sym done);
+      };
+      phase = refl;
+      knows = subst (λ b. Knows b.places (view b.disk)) (sym done) known;
+    }
+
+    pub add-moves : Moves book actor number add_after
+    add-moves = leads-move (heard Done) on.began add_after add-leads
+
   -- a call of the task with a change or none, and what it is after
   abbrev making_of : Call → Option LocalChange → Answer → Making
   making_of call change answer =
@@ -685,6 +763,17 @@ module _ (book : Plain) (actor : Actor) (number : ℕ) (task : UserTask) (whole 
       (after_of book number (making_of (Encrypt blob app_id nonce key) None a) (Heard a) bench))
       (sym (does.0 ∙ ap (λ found. Sealed (sealed_by found nonce key)) shows.stands.1.under.live))
       (encrypt-moves blob app_id nonce key bench shows.stands.1 does.1))
+  user-done (Add owner class key) change answer bench shows whole_blob does =
+      subst (λ a. Moves book actor number
+      (after_of book number (making_of (Add owner class key) change a) (Heard a) bench)) (sym does.0)
+      (subst (λ c. AddShows tasks task scene owner class key c → Moves book actor number
+      (after_of book number (making_of (Add owner class key) c Done) (Heard Done) bench)) (sym shows.stands.quiet)
+      (subst (λ u. bench ≡ record book.bench {
+        keys = installed book.bench.keys u class key;
+        ring_counts = bench.ring_counts;
+      } → AddShows tasks task scene u class key None → Moves book actor number
+      (after_of book number (making_of (Add u class key) None Done) (Heard Done) bench)) (sym shows.stands.mine)
+      (λ done stands. add-moves class key stands bench done) does.1) shows.stands)
   user-done ListCall change answer bench shows whole_blob does = absurd shows.stands
   user-done (Read place) change answer bench shows whole_blob does = absurd shows.stands
   user-done Entries change answer bench shows whole_blob does = absurd shows.stands
@@ -705,6 +794,8 @@ module _ (book : Plain) (actor : Actor) (number : ℕ) (task : UserTask) (whole 
       subst (tasks.hears task)
       (sym (does.0 ∙ ap (λ found. Sealed (sealed_by found nonce key)) shows.stands.1.under.live))
       shows.stands.1.leads.hears
+  user-hears (Add owner class key) change answer bench shows long does =
+      subst (tasks.hears task) (sym does.0) shows.stands.leads.hears
   user-hears ListCall change answer bench shows long does = absurd shows.stands
   user-hears (Read place) change answer bench shows long does = absurd shows.stands
   user-hears Entries change answer bench shows long does = absurd shows.stands
@@ -719,6 +810,7 @@ module _ (book : Plain) (actor : Actor) (number : ℕ) (task : UserTask) (whole 
 
     record Spares (call : Call) : Type 0 where
       store : bench.store ≡ book.bench.store
+      keys : bench.keys ≡ book.bench.keys
       keeps : Keeps (sealed vault) user line line'
       told : ChangeIsTold (view book.bench.disk) call (is_some change)
       knows : Knows bench.places (view bench.disk)
@@ -727,6 +819,7 @@ module _ (book : Plain) (actor : Actor) (number : ℕ) (task : UserTask) (whole 
         → IsFailedOp book.bench bench user op → Spares (OpCall user op names)
     spares-op op names shows failed = record {
       store = failed-store book.bench bench user op failed;
+      keys = failed-keys book.bench bench (OpCall user op names) failed;
       keeps = step-failed (sealed vault) user line change whole.worlds op bench.disk shows.step
           (failed-disk book.bench bench user op failed);
       told = step-told (sealed vault) user line change whole.worlds op shows.step;
@@ -739,6 +832,7 @@ module _ (book : Plain) (actor : Actor) (number : ℕ) (task : UserTask) (whole 
         → AllRests book.bench bench → Spares call
     spares-same call told rests = record {
       store = ap (λ b. b.store) rests;
+      keys = ap (λ b. b.keys) rests;
       keeps = same-line (sealed vault) user line bench.disk whole.worlds (ap (λ b. b.disk) rests);
       told = told;
       knows = subst (λ b. Knows b.places (view b.disk)) (sym rests) known;
@@ -751,6 +845,7 @@ module _ (book : Plain) (actor : Actor) (number : ℕ) (task : UserTask) (whole 
     spares Sync shows failed = spares-same Sync tt failed
     spares (Generate tag app_id) shows failed = spares-same (Generate tag app_id) tt failed
     spares (Encrypt blob app_id nonce key) shows failed = spares-same (Encrypt blob app_id nonce key) tt failed
+    spares (Add owner class key) shows failed = spares-same (Add owner class key) tt failed
     spares ListCall shows failed = absurd shows.stands
     spares (Read place) shows failed = absurd shows.stands
     spares Entries shows failed = absurd shows.stands
@@ -769,6 +864,7 @@ module _ (book : Plain) (actor : Actor) (number : ℕ) (task : UserTask) (whole 
           level = ap (λ s. s.level) spared.store;
           seed = refl;
           kept = λ blob entry live. ap (λ s. entry_of s.entries blob) spared.store ∙ live;
+          keys = λ other differ. ap (λ keys. key_of keys other) spared.keys;
           others = spared.keeps.others;
         } in record {
           may = tt;
@@ -812,6 +908,7 @@ module _ (book : Plain) (actor : Actor) (number : ℕ) (task : UserTask) (whole 
   user-fits (Encrypt blob app_id nonce key) change shows few =
       let under = shows.stands.1.under in
       record { entry = under.entry; found = under.live; bound = under.bound; current = under.current }
+  user-fits (Add owner class key) change shows few = tt
   user-fits ListCall change shows few = absurd shows.stands
   user-fits (Read place) change shows few = absurd shows.stands
   user-fits Entries change shows few = absurd shows.stands

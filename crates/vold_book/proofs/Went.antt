@@ -58,7 +58,7 @@ as-told : (made : Made) → told_of (Ok made) ≡ as_told (was_done made)
 as-told (Heard answer) = refl
 as-told (Failed device) = refl
 
-module _ {D E : Type 0} (senses : Senses D E) (before after : BookState (BenchState D E)) (actor : Actor)
+module _ {D E F : Type 0} (senses : Senses D E F) (before after : BookState (BenchState D E F)) (actor : Actor)
     (whole : IsWhole senses before) where
   abbrev plain : Plain
   plain = seen senses before
@@ -119,11 +119,12 @@ module _ {D E : Type 0} (senses : Senses D E) (before after : BookState (BenchSt
   goes-isolates (inl calls) owner user own differ =
       let spare = call-isolates plain actor owner user own differ calls.it calls.making.task calls.making.call
       calls.making.change calls.makes.made (seen senses after).bench calls.plans calls.makes.is_made in
-      (spare.places, spare.entries)
+      (spare.places, spare.entries, spare.keys)
   goes-isolates (inr replies) owner user own differ =
       let spare = spare-same user plain.bench (seen senses after).bench
       (ap (λ b. senses.disk b.bench.tree) replies.replies.state)
-      (ap (λ b. senses.store b.bench.store) replies.replies.state) in (spare.places, spare.entries)
+      (ap (λ b. senses.store b.bench.store) replies.replies.state)
+      (ap (λ b. senses.keys b.bench.ring) replies.replies.state) in (spare.places, spare.entries, spare.keys)
 
   -- with fewer turns left
   pub goes-falls : GoesOn senses before after actor → turns_left (seen senses after) < turns_left plain

@@ -1,6 +1,7 @@
 pub mod Parts
 pub mod Sweeping
 pub mod State
+pub mod Installed
 pub mod Recovery
 pub mod Tasks
 pub mod Entries

@@ -36,9 +36,11 @@ standing_of book number =
     cond (nat_lt number (length book.docket.commands)) (stands_in book.ledger.entries number) Unknown
 
 -- only the devices were looked at, which leaves all but their counts
-pub record IsLooked {D E : Type 0} (senses : Senses D E) (before after : BookState (BenchState D E)) : Type 0 where
+pub record IsLooked {D E F : Type 0} (senses : Senses D E F) (before after : BookState (BenchState D E F)) :
+    Type 0 where
   pub state : after ≡ over before after.bench
   pub same : (seen senses after).bench ≡ record (seen senses before).bench {
     tree_counts = (seen senses after).bench.tree_counts;
     store_counts = (seen senses after).bench.store_counts;
+    ring_counts = (seen senses after).bench.ring_counts;
   }

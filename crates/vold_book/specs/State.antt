@@ -1,6 +1,7 @@
 -- What contracts see of a Book.
 use Rattle.std.specs.Prelude.{ℕ, List, []}
 use Rattle.tree_model.specs.Disk.{Disk}
+use Rattle.key_ring.specs.Ring.{Ring, key_of}
 use Rattle.tree_model.specs.Counted.{Counts}
 use Rattle.journal_model.specs.declared.commands.Actor.{Actor}
 use Rattle.journal_model.specs.declared.commands.Command.{Command}
@@ -23,9 +24,17 @@ abbrev pub Docket : Type 0
 Docket = DocketState actor_cmp Command Running
 
 -- how contracts see the devices, by the meanings that their traits give
-abbrev pub senses : {D E : Type 0} → (D → Disk) → (D → Counts) → (E → Store) → (E → Counts) → Senses D E
-senses disk tree_counts store store_counts =
-    record { disk = disk; tree_counts = tree_counts; store = store; store_counts = store_counts }
+abbrev pub senses : {D E F : Type 0} → (D → Disk) → (D → Counts) → (E → Store) → (E → Counts) → (F → Ring)
+    → (F → Counts)
+    → Senses D E F
+senses disk tree_counts store store_counts keys ring_counts = record {
+  disk = disk;
+  tree_counts = tree_counts;
+  store = store;
+  store_counts = store_counts;
+  keys = keys;
+  ring_counts = ring_counts;
+}
 
 -- a Book over a bench of some kind
 pub record BookState (B : Type 0) : Type 0 where
@@ -40,9 +49,10 @@ pub record BookState (B : Type 0) : Type 0 where
   pub tracker : TrackerState
 
 -- a Book's parts as they are stored
-pub record Parts (D E : Type 0) : Type 0 where
+pub record Parts (D E F : Type 0) : Type 0 where
   pub tree : D
   pub store : E
+  pub ring : F
   pub places : NamedPlaces
   pub list : Deferral
   pub opened : Opened
@@ -52,9 +62,15 @@ pub record Parts (D E : Type 0) : Type 0 where
   pub docket : StoredDocket Actor Command Running
   pub tracker : TrackerState
 
-abbrev pub book_of : {D E : Type 0} → Parts D E → BookState (BenchState D E)
+abbrev pub book_of : {D E F : Type 0} → Parts D E F → BookState (BenchState D E F)
 book_of parts = record {
-  bench = record { tree = parts.tree; store = parts.store; places = parts.places; list = parts.list };
+  bench = record {
+    tree = parts.tree;
+    store = parts.store;
+    ring = parts.ring;
+    places = parts.places;
+    list = parts.list;
+  };
   opened = parts.opened;
   seed = parts.seed;
   boot_seed = parts.boot_seed;
@@ -78,7 +94,7 @@ over book bench = record {
   tracker = book.tracker;
 }
 
-abbrev pub seen : {D E : Type 0} → Senses D E → BookState (BenchState D E) → Plain
+abbrev pub seen : {D E F : Type 0} → Senses D E F → BookState (BenchState D E F) → Plain
 seen senses book = over book (bench_seen senses book.bench)
 
 -- the machine that the journal leads to
@@ -98,12 +114,13 @@ vault_of seed store =
     record { entries = store.entries; level = store.level; seed = seed; attempts = no_attempts }
 
 -- what tasks rest on: the machine's phase and boot, the disk with its changes, what directories are opened with, the
--- known places and the list of waiting deletes
+-- keys in the ring, the known places and the list of waiting deletes
 pub record Ground : Type 0 where
   pub phase : Phase
   pub boot : ℕ
   pub line : Timeline
   pub vault : Vault
+  pub keys : Ring
   pub places : NamedPlaces
   pub list : Deferral
 
@@ -113,6 +130,7 @@ ground_at seed bench machine = record {
   boot = machine.boot;
   line = timeline bench.disk machine;
   vault = vault_of seed bench.store;
+  keys = bench.keys;
   places = bench.places;
   list = bench.list;
 }
@@ -122,4 +140,4 @@ ground_of book = ground_at book.seed book.bench (machine_of book)
 
 -- a user's share of it
 abbrev pub share_of : ℕ → Ground → Share
-share_of user on = record { own = own_of user on.line; vault = on.vault }
+share_of user on = record { own = own_of user on.line; vault = on.vault; keys = key_of on.keys user }

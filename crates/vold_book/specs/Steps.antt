@@ -45,14 +45,14 @@ pub record IsPlanned (book : Plain) (actor : Actor) (planned : Planned) : Type 0
   pub plans : Plans book actor it (task_now planned.task it.task) (next_of planned.plan)
 
 -- the reply was given to the actor's command
-pub record RepliesTo {D E : Type 0} (before after : BookState (BenchState D E)) (actor : Actor) (it : Running)
+pub record RepliesTo {D E F : Type 0} (before after : BookState (BenchState D E F)) (actor : Actor) (it : Running)
     (reply : Reply) : Type 0 where
   pub command : Command
   pub given : slice_get before.docket.commands it.number ≡ Some command
   pub state : after ≡ after_reply before actor it command reply
 
 -- the call that was planned was made
-pub record CallsOn {D E : Type 0} (senses : Senses D E) (before after : BookState (BenchState D E))
+pub record CallsOn {D E F : Type 0} (senses : Senses D E F) (before after : BookState (BenchState D E F))
     (actor : Actor) : Type 0 where
   pub it : Running
   pub making : Making
@@ -60,7 +60,7 @@ pub record CallsOn {D E : Type 0} (senses : Senses D E) (before after : BookStat
   pub makes : Makes senses before after actor it.number making
 
 -- and the reply that was planned was given
-pub record RepliesOn {D E : Type 0} (senses : Senses D E) (before after : BookState (BenchState D E))
+pub record RepliesOn {D E F : Type 0} (senses : Senses D E F) (before after : BookState (BenchState D E F))
     (actor : Actor) : Type 0 where
   pub it : Running
   pub now : Task
@@ -68,6 +68,6 @@ pub record RepliesOn {D E : Type 0} (senses : Senses D E) (before after : BookSt
   pub plans : Plans (seen senses before) actor it now (ReplyNext reply)
   pub replies : RepliesTo before after actor it reply
 
-abbrev pub GoesOn : {D E : Type 0} → Senses D E → BookState (BenchState D E) → BookState (BenchState D E) → Actor
-    → Type 0
+abbrev pub GoesOn : {D E F : Type 0} → Senses D E F → BookState (BenchState D E F) → BookState (BenchState D E F)
+    → Actor → Type 0
 GoesOn senses before after actor = CallsOn senses before after actor ⊎ RepliesOn senses before after actor

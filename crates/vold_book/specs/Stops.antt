@@ -28,11 +28,13 @@ after_stop book bench cut kept = record book {
 }
 
 -- a stop keeps exactly the operations of its cut, with its fills, and its entry has the number of changes that
--- survive: the durable ones, and those among the first pending operations that it keeps; the keystore stays
-pub record IsStopped {D E : Type 0} (senses : Senses D E) (before after : BookState (BenchState D E))
+-- survive: the durable ones, and those among the first pending operations that it keeps; no key is left in the ring,
+-- and the keystore stays
+pub record IsStopped {D E F : Type 0} (senses : Senses D E F) (before after : BookState (BenchState D E F))
     (cut : Cut) : Type 0 where
   pub left : (seen senses after).bench ≡ record (seen senses before).bench {
     disk = stopped (seen senses before).bench.disk cut.keep cut.fills;
+    keys = [];
     list = unlisted before.bench.list;
   }
   pub state : after ≡ after_stop before after.bench cut
@@ -50,8 +52,8 @@ after_restart book bench level = record book {
   tracker = record book.tracker { phase = Down; boot = book.tracker.boot + 1; level = level };
 }
 
--- a restart leaves both devices, where the level is the one that the machine has
-pub record IsRestarted {D E : Type 0} (senses : Senses D E) (before after : BookState (BenchState D E)) (level : ℕ) :
-    Type 0 where
+-- a restart leaves the devices, where the level is the one that the machine has
+pub record IsRestarted {D E F : Type 0} (senses : Senses D E F) (before after : BookState (BenchState D E F))
+    (level : ℕ) : Type 0 where
   pub same : (seen senses after).bench ≡ (seen senses before).bench
   pub state : after ≡ after_restart before after.bench level

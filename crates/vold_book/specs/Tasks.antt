@@ -7,9 +7,9 @@ use Rattle.journal_model.specs.declared.commands.Actor.{Actor}
 use Rattle.journal_model.specs.declared.commands.Actor.TheVariants.{User as UserActor}
 use Rattle.journal_model.specs.declared.commands.Command.TheVariants.{Recover}
 use Rattle.journal_model.specs.declared.commands.Reply.{Reply}
-use Rattle.journal_model.specs.declared.commands.Reply.TheVariants.{TreeFault, StoreFault}
+use Rattle.journal_model.specs.declared.commands.Reply.TheVariants.{TreeFault, StoreFault, RingFault}
 use Rattle.journal_model.specs.declared.entries.Device.{Device}
-use Rattle.journal_model.specs.declared.entries.Device.TheVariants.{Tree, Store}
+use Rattle.journal_model.specs.declared.entries.Device.TheVariants.{Tree, Store, Ring}
 use Rattle.journal_model.specs.Command.{actor_of}
 use Rattle.journal_model.specs.Machine.{Machine, Running as Began, kind_of_reply, Refusal as RefusalKind}
 use Rattle.keystore_model.specs.Store.{Differ}
@@ -86,6 +86,7 @@ scene_of user ground began = record { boot = ground.boot; began = began; share =
 abbrev pub fault_of : Device → Reply
 fault_of Tree = TreeFault
 fault_of Store = StoreFault
+fault_of Ring = RingFault
 
 -- what a task shows of its next turn: a refusal and a fault are told
 abbrev pub TaskShows : Ground → Began → Task → Next → Type 0

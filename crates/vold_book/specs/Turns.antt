@@ -5,10 +5,12 @@ use Rattle.std.specs.FinMap as map
 use Rattle.std.specs.List.{filter}
 use Rattle.tree_model.specs.declared.device.DevFault.{DevFault}
 use Rattle.tree_model.specs.declared.device.DevFault.TheVariants.{Failed as DeviceFailed}
+use Rattle.tree_model.specs.declared.places.Class.{Class}
 use Rattle.tree_model.specs.declared.places.Place.TheVariants.{De}
 use Rattle.tree_model.specs.Disk.{view}
 use Rattle.tree_model.specs.Counted.{Counts}
 use Rattle.tree_model.specs.Touch.{SameFor}
+use Rattle.key_ring.specs.Ring.{key_of}
 use Rattle.deferred_delete.specs.Deferral.{Deferral}
 use Rattle.keystore_model.specs.declared.entry.StoreEntry.{StoreEntry}
 use Rattle.journal_model.specs.declared.commands.Actor.{Actor}
@@ -21,7 +23,7 @@ use Rattle.journal_model.specs.declared.entries.Birth.{Birth}
 use Rattle.journal_model.specs.declared.entries.Change.{Change}
 use Rattle.journal_model.specs.declared.entries.Device.{Device}
 use Rattle.journal_model.specs.declared.entries.Entry.{Entry}
-use Rattle.journal_model.specs.declared.entries.Entry.TheVariants.{Began, Changed, Synced, Replied}
+use Rattle.journal_model.specs.declared.entries.Entry.TheVariants.{Began, Changed, Synced, Installed, Replied}
 use Rattle.journal_model.specs.declared.phase.Phase.TheVariants.{Up}
 use Rattle.journal_model.specs.declared.refusals.Facts.{Facts}
 use Rattle.journal_model.specs.Command.{actor_of, user_in}
@@ -65,19 +67,21 @@ new_book bench opened seed = record {
   tracker = new_tracker;
 }
 
-abbrev pub new_bench : {D E : Type 0} → D → E → BenchState D E
-new_bench tree store = record {
+abbrev pub new_bench : {D E F : Type 0} → D → E → F → BenchState D E F
+new_bench tree store ring = record {
   tree = tree;
   store = store;
+  ring = ring;
   places = map.empty;
   list = record { items = []; next = 0; promised = 0 };
 }
 
 -- the devices' counts as they are
-abbrev pub opened_at : Counts → Counts → Opened
-opened_at tree store = record {
+abbrev pub opened_at : Counts → Counts → Counts → Opened
+opened_at tree store ring = record {
   tree = record { calls = tree.calls; faults = tree.faults };
   store = record { calls = store.calls; faults = store.faults };
+  ring = record { calls = ring.calls; faults = ring.faults };
 }
 
 -- the Book with a further command, which waits last for its actor
@@ -121,12 +125,12 @@ begun_places task places = cond (begins_anew task) map.empty places
 abbrev pub begun_list : Task → Deferral → Deferral
 begun_list task list = cond (begins_anew task) (unlisted list) list
 
-abbrev pub begun_bench : {D E : Type 0} → Task → BenchState D E → BenchState D E
+abbrev pub begun_bench : {D E F : Type 0} → Task → BenchState D E F → BenchState D E F
 begun_bench task bench =
     record bench { places = begun_places task bench.places; list = begun_list task bench.list }
 
 -- a turn that begins the first command of the actor's queue, and makes no call
-pub record Begins {D E : Type 0} (before after : BookState (BenchState D E)) (actor : Actor) : Type 0 where
+pub record Begins {D E F : Type 0} (before after : BookState (BenchState D E F)) (actor : Actor) : Type 0 where
   pub number : ℕ
   pub numbers : List ℕ
   pub command : Command
@@ -142,8 +146,8 @@ pub record Begins {D E : Type 0} (before after : BookState (BenchState D E)) (ac
   }
 
 -- the Book once the actor's command got its reply
-abbrev pub after_reply : {D E : Type 0} → BookState (BenchState D E) → Actor → Running → Command → Reply
-    → BookState (BenchState D E)
+abbrev pub after_reply : {D E F : Type 0} → BookState (BenchState D E F) → Actor → Running → Command → Reply
+    → BookState (BenchState D E F)
 after_reply book actor it command reply = record book {
   bench = record book.bench { list = listed book.bench.list (lists_with it.task) };
   ledger = record book.ledger { entries = book.ledger.entries ++ Replied it.number reply ∷ [] };
@@ -170,7 +174,7 @@ after_call book actor number making made bench = record book {
 }
 
 -- the call was made and counted, and noted as it went
-pub record Makes {D E : Type 0} (senses : Senses D E) (before after : BookState (BenchState D E)) (actor : Actor)
+pub record Makes {D E F : Type 0} (senses : Senses D E F) (before after : BookState (BenchState D E F)) (actor : Actor)
     (number : ℕ) (making : Making) : Type 0 where
   pub made : Made
   pub is_made : IsMade (seen senses before).bench (seen senses after).bench making.call (Ok made)
@@ -181,10 +185,11 @@ pub record Makes {D E : Type 0} (senses : Senses D E) (before after : BookState 
   pub then : TaskAfter making.call made making.task making.then
   pub state : after ≡ after_call before actor number making made after.bench
 
--- an entry of a call: a sync, or a change of this command
+-- an entry of a call: a sync, a change of this command, or a key that was installed
 abbrev pub IsNoted : ℕ → Option Entry → Type 0
 IsNoted number None = Unit {0}
-IsNoted number (Some entry) = (entry ≡ Synced) ⊎ ((change : Change) × (entry ≡ Changed number change))
+IsNoted number (Some entry) = (entry ≡ Synced) ⊎ (((change : Change) × (entry ≡ Changed number change))
+    ⊎ ((user : ℕ) × (class : Class) × (entry ≡ Installed user class)))
 
 -- the task tells next that the device failed
 pub record IsFault (device : Device) (task : Task) : Type 0 where
@@ -198,7 +203,7 @@ as_told false = Err DeviceFailed
 
 -- a turn that makes one call, counted by its device, with at most one entry; that the device failed is told next
 -- exactly where it did
-pub record CallsOnce {D E : Type 0} (senses : Senses D E) (before after : BookState (BenchState D E))
+pub record CallsOnce {D E F : Type 0} (senses : Senses D E F) (before after : BookState (BenchState D E F))
     (actor : Actor) : Type 0 where
   pub it : Running
   pub device : Device
@@ -221,7 +226,7 @@ pub record CallsOnce {D E : Type 0} (senses : Senses D E) (before after : BookSt
   }
 
 -- a turn that gives a reply, and makes no call
-pub record RepliesOnce {D E : Type 0} (before after : BookState (BenchState D E)) (actor : Actor) : Type 0 where
+pub record RepliesOnce {D E F : Type 0} (before after : BookState (BenchState D E F)) (actor : Actor) : Type 0 where
   pub it : Running
   pub command : Command
   pub reply : Reply
@@ -232,13 +237,13 @@ pub record RepliesOnce {D E : Type 0} (before after : BookState (BenchState D E)
   pub state : after ≡ after_reply before actor it command reply
 
 -- one turn of an actor: it begins a command where it runs none, and else makes one call or gives its reply
-abbrev pub Turns : {D E : Type 0} → Senses D E → BookState (BenchState D E) → BookState (BenchState D E) → Actor
-    → Type 0
+abbrev pub Turns : {D E F : Type 0} → Senses D E F → BookState (BenchState D E F) → BookState (BenchState D E F)
+    → Actor → Type 0
 Turns senses before after actor = (IsNone (map.get before.docket.running actor) × Begins before after actor)
     ⊎ (CallsOnce senses before after actor ⊎ RepliesOnce before after actor)
 
 -- nothing changed that a contract sees of the devices or the Book
-pub record IsSame {D E : Type 0} (senses : Senses D E) (before after : BookState (BenchState D E)) : Type 0 where
+pub record IsSame {D E F : Type 0} (senses : Senses D E F) (before after : BookState (BenchState D E F)) : Type 0 where
   pub state : after ≡ over before after.bench
   pub same : (seen senses after).bench ≡ (seen senses before).bench
 
@@ -247,15 +252,15 @@ abbrev pub IsIdle : {B : Type 0} → BookState B → Actor → Type 0
 IsIdle book actor = IsNone (map.get book.docket.running actor) × IsNone (map.get book.docket.waiting actor)
 
 -- a turn that went: it did one of the three things, for an actor that has something to do
-pub record Goes {D E : Type 0} (senses : Senses D E) (before after : BookState (BenchState D E)) (actor : Actor) :
-    Type 0 where
+pub record Goes {D E F : Type 0} (senses : Senses D E F) (before after : BookState (BenchState D E F))
+    (actor : Actor) : Type 0 where
   pub turn : Turns senses before after actor
   pub busy : ¬ (IsIdle before actor)
   pub takes : TakesTurn before.tracker.phase actor
 
 -- what each answer of a turn tells
-abbrev pub Answers : {D E : Type 0} → Senses D E → BookState (BenchState D E) → BookState (BenchState D E) → Actor
-    → Turn → Type 0
+abbrev pub Answers : {D E F : Type 0} → Senses D E F → BookState (BenchState D E F) → BookState (BenchState D E F)
+    → Actor → Turn → Type 0
 Answers senses before after actor Went = Goes senses before after actor
 Answers senses before after actor Idle = IsIdle before actor × (after ≡ before)
 Answers senses before after actor Waits =
@@ -265,11 +270,12 @@ Answers senses before after actor Waits =
 abbrev pub entries_of : ℕ → List StoreEntry → List StoreEntry
 entries_of user entries = filter (λ entry. entry.tag.user == user) entries
 
--- a user's turn leaves what stands at the places of other users, and their keys' entries
+-- a user's turn leaves what stands at the places of other users, their keys' entries, and their keys in the ring
 abbrev pub LeavesOthers : Plain → Plain → Actor → Type 0
 LeavesOthers before after actor = (owner user : ℕ) → actor ≡ User owner → user ≢ owner
     → SameFor user (view before.bench.disk) (view after.bench.disk)
     × (entries_of user after.bench.store.entries ≡ entries_of user before.bench.store.entries)
+    × (key_of after.bench.keys user ≡ key_of before.bench.keys user)
 
 -- fewer turns are left once one went
 abbrev pub Falls : Plain → Plain → Turn → Type 0

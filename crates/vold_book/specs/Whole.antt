@@ -1,7 +1,7 @@
 -- When a Book is whole: its journal is legal, what it tracks agrees with the machine and the devices, every tree that
--- a stop can leave stands for a prefix of the changes, no number is lost, each running command stands where its task
--- says, every live blob is named, held or listed, and replies that tell of a failure are charged to failures of their
--- devices.
+-- a stop can leave stands for a prefix of the changes, each key in the ring is a made one, no number is lost, each
+-- running command stands where its task says, every live blob is named, held or listed, and replies that tell of a
+-- failure are charged to failures of their devices.
 use Rattle.std.specs.Prelude.{◌≡◌, ℕ, ◌+◌, ◌*◌, ◌-◌, ◌^◌, ◌≤◌, ◌⊎◌, List, [], ◌∷◌, length, Some, None, IsSomeAnd}
 use Rattle.std.specs.Prelude.{Contains, slice_get, unwrap_or}
 use Rattle.std.specs.List.{flat_map}
@@ -15,9 +15,10 @@ use Rattle.journal_model.specs.declared.commands.Actor.{Actor}
 use Rattle.journal_model.specs.declared.commands.Actor.TheVariants.{Boot}
 use Rattle.journal_model.specs.declared.commands.Command.{Command}
 use Rattle.journal_model.specs.declared.commands.Reply.{Reply}
-use Rattle.journal_model.specs.declared.commands.Reply.TheVariants.{TreeFault, StoreFault}
+use Rattle.journal_model.specs.declared.commands.Reply.TheVariants.{TreeFault, StoreFault, RingFault}
 use Rattle.journal_model.specs.declared.entries.Device.{Device}
 use Rattle.journal_model.specs.declared.entries.Device.TheVariants.{Tree as TreeDevice, Store as StoreDevice}
+use Rattle.journal_model.specs.declared.entries.Device.TheVariants.{Ring as RingDevice}
 use Rattle.journal_model.specs.declared.entries.Entry.{Entry}
 use Rattle.journal_model.specs.declared.entries.Entry.TheVariants.{Began, Replied}
 use Rattle.journal_model.specs.declared.phase.Phase.{Phase}
@@ -33,7 +34,7 @@ use Rattle.user_world.specs.Images.{ImagesStand}
 use Rattle.user_world.specs.Timelines.{OwnWorldsStand}
 use Rattle.key_directory.specs.Vaults.{sealed}
 use Rattle.step_core.specs.Table.{NamedPlaces}
-use Rattle.bench.specs.Bench.{BenchState, Senses, Plain as Seen}
+use Rattle.bench.specs.Bench.{BenchState, Senses, Plain as Seen, counts_of}
 use Rattle.bench.specs.Known.{Knows}
 use Rattle.user_tasks.specs.Tasks.{rest_of}
 use Rattle.vold_book.specs.declared.opened.Opened.{Opened}
@@ -41,6 +42,7 @@ use Rattle.vold_book.specs.declared.recovery.Recovery.TheVariants.{Listed}
 use Rattle.vold_book.specs.declared.tasks.Running.{Running}
 use Rattle.vold_book.specs.declared.tasks.Task.{Task}
 use Rattle.vold_book.specs.declared.tasks.Task.TheVariants.{User, Recovery, Refusal, Fault}
+use Rattle.vold_book.specs.Installed.{RingStands}
 use Rattle.vold_book.specs.Parts.{Agrees}
 use Rattle.vold_book.specs.Recovery.{max_commands, max_places, recovery_left}
 use Rattle.vold_book.specs.State.{Docket, BookState, Plain, seen, machine_of, timeline, ground_of, vault_of}
@@ -90,6 +92,7 @@ PhaseStands Halted book machine =
 abbrev pub charge_of : Device → Reply → ℕ
 charge_of TreeDevice TreeFault = 1
 charge_of StoreDevice StoreFault = 1
+charge_of RingDevice RingFault = 1
 charge_of device reply = 0
 
 abbrev pub charge_in : Device → Entry → ℕ
@@ -99,6 +102,7 @@ charge_in device entry = 0
 abbrev pub same_device : Device → Device → ℕ
 same_device TreeDevice TreeDevice = 1
 same_device StoreDevice StoreDevice = 1
+same_device RingDevice RingDevice = 1
 same_device device other = 0
 
 abbrev pub due_in : Device → Task → ℕ
@@ -110,12 +114,12 @@ due_of device it = due_in device it.task
 
 -- the failures of a device, and those when the Book was opened
 abbrev pub faults_of : Seen → Device → ℕ
-faults_of bench TreeDevice = bench.tree_counts.faults
-faults_of bench StoreDevice = bench.store_counts.faults
+faults_of bench device = (counts_of bench device).faults
 
 abbrev pub first_faults : Opened → Device → ℕ
 first_faults opened TreeDevice = opened.tree.faults
 first_faults opened StoreDevice = opened.store.faults
+first_faults opened RingDevice = opened.ring.faults
 
 -- the replies that told of a failure and those that are due are at most the device's failures since the Book was
 -- opened, while it can count them
@@ -197,6 +201,8 @@ pub record Whole (book : Plain) : Type 0 where
   -- the same by users
   pub worlds : OwnWorldsStand (sealed (vault_of book.seed book.bench.store))
       (timeline book.bench.disk (machine_of book))
+  -- the keys in the ring are made ones of users who are there, and the machine knows whose they are
+  pub ring : RingStands book.seed book.bench.keys (machine_of book)
   pub numbers : Numbers book.docket book.ledger.entries (machine_of book)
   -- each actor's command stands where its task says, and each command on the machine is run by its actor
   pub run : (actor : Actor) (it : Running) → map.get book.docket.running actor ≡ Some it
@@ -208,7 +214,7 @@ pub record Whole (book : Plain) : Type 0 where
   pub small : IsSmall book
   pub charged : (device : Device) → IsCharged book device
 
-abbrev pub IsWhole : {D E : Type 0} → Senses D E → BookState (BenchState D E) → Type 0
+abbrev pub IsWhole : {D E F : Type 0} → Senses D E F → BookState (BenchState D E F) → Type 0
 IsWhole senses book = Whole (seen senses book)
 
 -- how many turns a command has at most; each directory that it removes counts for itself

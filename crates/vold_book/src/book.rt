@@ -39,6 +39,7 @@ use journal_model::{
     Actor, Birth, Command, EnqueueFault, Entry, Facts, Journal, Order, Phase, Reply, boot_seed,
     refusal,
 };
+use key_ring::KeyRing;
 use keystore_model::{Keystore, Tag};
 use std::alloc::Global;
 use std::marker::Model;
@@ -53,9 +54,9 @@ pub const MAX_COMMANDS: usize = 65_536;
 /// The devices, what was done on them, the actors with their queues and running commands, and what the journal says of
 /// the machine.
 #[derive(Drop)]
-pub struct Book<T: TreeDisk, K: Keystore> {
+pub struct Book<T: TreeDisk, K: Keystore, G: KeyRing> {
     alloc: Global,
-    bench: Bench<T, K>,
+    bench: Bench<T, K, G>,
     opened: Opened,
     seed: Bytes,
     ledger: Ledger,
@@ -63,7 +64,7 @@ pub struct Book<T: TreeDisk, K: Keystore> {
     tracker: Tracker,
 }
 
-impl<T: TreeDisk, K: Keystore> Model for Book<T, K> {
+impl<T: TreeDisk, K: Keystore, G: KeyRing> Model for Book<T, K, G> {
     ghost use Rattle.std.specs.Coded.{codes};
     ghost use Rattle.std.specs.FinMap as map;
     ghost use Rattle.journal_model.specs.Actor.{actor_code};
@@ -73,12 +74,13 @@ impl<T: TreeDisk, K: Keystore> Model for Book<T, K> {
     ghost use Rattle.vold_book.specs.contracts.tasks.Running as running_type;
     ghost use Rattle.vold_book.specs.State.{BookState};
 
-    ghost Value = { BookState (BenchState T K) };
+    ghost Value = { BookState (BenchState T K G) };
 
     ghost coded = { Prim.hlevel (
       codes,
       T.code,
       K.code,
+      G.code,
       map.code,
       actor_code,
       place_code,
@@ -92,6 +94,7 @@ impl<T: TreeDisk, K: Keystore> Model for Book<T, K> {
     ghost view = { λ book. book_of (record {
       tree = book.bench.tree;
       store = book.bench.store;
+      ring = book.bench.ring;
       places = book.bench.table.places;
       list = book.bench.list;
       opened = book.opened;
@@ -102,9 +105,10 @@ impl<T: TreeDisk, K: Keystore> Model for Book<T, K> {
       tracker = book.tracker.now;
     }) };
 
-    ghost invariant = { λ book. IsWhole (senses T.disk T.counts K.store K.counts) (book_of (record {
+    ghost invariant = { λ book. IsWhole (senses T.disk T.counts K.store K.counts G.ring G.counts) (book_of (record {
       tree = book.bench.tree;
       store = book.bench.store;
+      ring = book.bench.ring;
       places = book.bench.table.places;
       list = book.bench.list;
       opened = book.opened;
@@ -116,23 +120,25 @@ impl<T: TreeDisk, K: Keystore> Model for Book<T, K> {
     })) };
 }
 
-impl<T: TreeDisk, K: Keystore> Book<T, K> {
-    /// An open Book with an empty journal, over a tree device and a keystore that hold nothing. The level of a machine
-    /// that never stopped is 1.
+impl<T: TreeDisk, K: Keystore, G: KeyRing> Book<T, K, G> {
+    /// An open Book with an empty journal, over a tree device, a keystore and a key ring that hold nothing. The level
+    /// of a machine that never stopped is 1.
     pub fn open(
         alloc: Global,
         tree: T,
         store: K,
+        ring: G,
         seed: Bytes,
         level: u32,
-    ) -> Result<Book<T, K>, NoMemory>
+    ) -> Result<Book<T, K, G>, NoMemory>
         requires tree { T.disk tree ≡ record { stable = map.empty; pending = [] } }
         requires store { K.store store ≡ empty_store level }
+        requires ring { G.ring ring ≡ [] }
         requires seed { length seed ≤ 64 }
         requires level { level ≡ 1 }
         ensures opened { IfOk result (λ book. book
-            ≡ new_book (new_bench tree store) (opened_at (T.counts tree) (K.counts store)) seed) }
-        ensures whole { IfOk result (IsWhole (senses T.disk T.counts K.store K.counts)) }
+            ≡ new_book (new_bench tree store ring) (opened_at (T.counts tree) (K.counts store) (G.counts ring)) seed) }
+        ensures whole { IfOk result (IsWhole (senses T.disk T.counts K.store K.counts G.ring G.counts)) }
     {
         let opened = Opened {
             tree: Counted {
@@ -143,11 +149,15 @@ impl<T: TreeDisk, K: Keystore> Book<T, K> {
                 calls: store.calls(),
                 faults: store.faults(),
             },
+            ring: Counted {
+                calls: ring.calls(),
+                faults: ring.faults(),
+            },
         };
         let boot_seed = boot_seed(seed.as_slice(), 0);
         Ok(Book {
             alloc,
-            bench: Bench::new(tree, store, boot_seed, alloc),
+            bench: Bench::new(tree, store, ring, boot_seed, alloc),
             opened,
             seed,
             ledger: Ledger::new(alloc),
@@ -160,7 +170,7 @@ impl<T: TreeDisk, K: Keystore> Book<T, K> {
     /// given out. On a refusal the command is given up and nothing else changes.
     pub fn enqueue(&mut self, command: Command) -> Result<u64, EnqueueFault>
         ensures answer { IsEnqueued self.old self.new command result }
-        ensures whole { IsWhole (senses T.disk T.counts K.store K.counts) self.new }
+        ensures whole { IsWhole (senses T.disk T.counts K.store K.counts G.ring G.counts) self.new }
     {
         if self.is_full() {
             return Err(EnqueueFault::Full);
@@ -175,7 +185,7 @@ impl<T: TreeDisk, K: Keystore> Book<T, K> {
     pub fn is_full(&self) -> bool
         ensures full { IsTrue result ↔ (length self.now.docket.commands ≡ max_commands) }
         ensures few { length self.now.docket.commands ≤ max_commands }
-        ensures whole { IsWhole (senses T.disk T.counts K.store K.counts) self.now }
+        ensures whole { IsWhole (senses T.disk T.counts K.store K.counts G.ring G.counts) self.now }
     {
         self.docket.count() == MAX_COMMANDS
     }
@@ -186,7 +196,7 @@ impl<T: TreeDisk, K: Keystore> Book<T, K> {
         ensures number { IfOk result (λ number. number ≡ length self.old.docket.commands) }
         ensures queued { OnOk result (self.new ≡ with_command self.old command) }
         ensures refused { OnErr result (self.new ≡ self.old) }
-        ensures whole { IsWhole (senses T.disk T.counts K.store K.counts) self.new }
+        ensures whole { IsWhole (senses T.disk T.counts K.store K.counts G.ring G.counts) self.new }
     {
         self.docket.enqueue(command.actor(), command)
     }
@@ -194,15 +204,18 @@ impl<T: TreeDisk, K: Keystore> Book<T, K> {
     /// Makes the actor's next turn. Want of memory leaves the Book and the devices as they were, and the call may be
     /// made again.
     pub fn advance(&mut self, actor: Actor) -> Result<Turn, NoMemory>
-        ensures turn { IfOk result (Answers (senses T.disk T.counts K.store K.counts) self.old self.new actor) }
-        ensures others { OnOk result (LeavesOthers (seen (senses T.disk T.counts K.store K.counts) self.old)
-            (seen (senses T.disk T.counts K.store K.counts) self.new) actor) }
-        ensures falls { IfOk result (Falls (seen (senses T.disk T.counts K.store K.counts) self.old)
-            (seen (senses T.disk T.counts K.store K.counts) self.new)) }
-        ensures ready { OnOk result (ComesUp (seen (senses T.disk T.counts K.store K.counts) self.old)
-            (seen (senses T.disk T.counts K.store K.counts) self.new)) }
-        ensures refused { OnErr result (IsSame (senses T.disk T.counts K.store K.counts) self.old self.new) }
-        ensures whole { IsWhole (senses T.disk T.counts K.store K.counts) self.new }
+        ensures turn { IfOk result
+            (Answers (senses T.disk T.counts K.store K.counts G.ring G.counts) self.old self.new actor) }
+        ensures others { OnOk result
+            (LeavesOthers (seen (senses T.disk T.counts K.store K.counts G.ring G.counts) self.old)
+            (seen (senses T.disk T.counts K.store K.counts G.ring G.counts) self.new) actor) }
+        ensures falls { IfOk result (Falls (seen (senses T.disk T.counts K.store K.counts G.ring G.counts) self.old)
+            (seen (senses T.disk T.counts K.store K.counts G.ring G.counts) self.new)) }
+        ensures ready { OnOk result (ComesUp (seen (senses T.disk T.counts K.store K.counts G.ring G.counts) self.old)
+            (seen (senses T.disk T.counts K.store K.counts G.ring G.counts) self.new)) }
+        ensures refused { OnErr result
+            (IsSame (senses T.disk T.counts K.store K.counts G.ring G.counts) self.old self.new) }
+        ensures whole { IsWhole (senses T.disk T.counts K.store K.counts G.ring G.counts) self.new }
     {
         match self.next_step(actor) {
             Step::Idle => Ok(Turn::Idle),
@@ -221,7 +234,7 @@ impl<T: TreeDisk, K: Keystore> Book<T, K> {
     /// What the actor's next turn does.
     fn next_step(&self, actor: Actor) -> Step
         ensures step { IsStep self.now actor result }
-        ensures whole { IsWhole (senses T.disk T.counts K.store K.counts) self.now }
+        ensures whole { IsWhole (senses T.disk T.counts K.store K.counts G.ring G.counts) self.now }
     {
         match self.docket.running(actor) {
             Some(_) => Step::GoOn,
@@ -238,7 +251,7 @@ impl<T: TreeDisk, K: Keystore> Book<T, K> {
         requires takes { TakesTurn self.old.tracker.phase actor }
         ensures begun { OnOk result (Begins self.old self.new actor) }
         ensures refused { OnErr result (self.new ≡ self.old) }
-        ensures whole { IsWhole (senses T.disk T.counts K.store K.counts) self.new }
+        ensures whole { IsWhole (senses T.disk T.counts K.store K.counts G.ring G.counts) self.new }
     {
         let number = self.docket.first(actor);
         let command = self.docket.command(number).duplicate(self.alloc)?;
@@ -299,9 +312,11 @@ impl<T: TreeDisk, K: Keystore> Book<T, K> {
     /// Makes the next turn of the command that the actor runs.
     fn go_on(&mut self, actor: Actor) -> Result<(), NoMemory>
         requires { IsSome (map.get self.old.docket.running actor) }
-        ensures turned { OnOk result (GoesOn (senses T.disk T.counts K.store K.counts) self.old self.new actor) }
-        ensures refused { OnErr result (IsSame (senses T.disk T.counts K.store K.counts) self.old self.new) }
-        ensures whole { IsWhole (senses T.disk T.counts K.store K.counts) self.new }
+        ensures turned { OnOk result
+            (GoesOn (senses T.disk T.counts K.store K.counts G.ring G.counts) self.old self.new actor) }
+        ensures refused { OnErr result
+            (IsSame (senses T.disk T.counts K.store K.counts G.ring G.counts) self.old self.new) }
+        ensures whole { IsWhole (senses T.disk T.counts K.store K.counts G.ring G.counts) self.new }
     {
         let Planned { task, plan } = self.planned(actor)?;
         match plan {
@@ -313,8 +328,9 @@ impl<T: TreeDisk, K: Keystore> Book<T, K> {
     /// What the actor's command does next, which shows what it has to.
     fn planned(&self, actor: Actor) -> Result<Planned, NoMemory>
         requires { IsSome (map.get self.now.docket.running actor) }
-        ensures plans { IfOk result (IsPlanned (seen (senses T.disk T.counts K.store K.counts) self.now) actor) }
-        ensures whole { IsWhole (senses T.disk T.counts K.store K.counts) self.now }
+        ensures plans { IfOk result
+            (IsPlanned (seen (senses T.disk T.counts K.store K.counts G.ring G.counts) self.now) actor) }
+        ensures whole { IsWhole (senses T.disk T.counts K.store K.counts G.ring G.counts) self.now }
     {
         let Some(it) = self.docket.running(actor) else {
             unreachable!()
@@ -342,11 +358,13 @@ impl<T: TreeDisk, K: Keystore> Book<T, K> {
         call: Call,
         change: Option<LocalChange>,
     ) -> Result<(), NoMemory>
-        requires { IsPlanned (seen (senses T.disk T.counts K.store K.counts) self.old) actor
+        requires { IsPlanned (seen (senses T.disk T.counts K.store K.counts G.ring G.counts) self.old) actor
             (record { task = task; plan = Plan.Call call change }) }
-        ensures called { OnOk result (GoesOn (senses T.disk T.counts K.store K.counts) self.old self.new actor) }
-        ensures refused { OnErr result (IsSame (senses T.disk T.counts K.store K.counts) self.old self.new) }
-        ensures whole { IsWhole (senses T.disk T.counts K.store K.counts) self.new }
+        ensures called { OnOk result
+            (GoesOn (senses T.disk T.counts K.store K.counts G.ring G.counts) self.old self.new actor) }
+        ensures refused { OnErr result
+            (IsSame (senses T.disk T.counts K.store K.counts G.ring G.counts) self.old self.new) }
+        ensures whole { IsWhole (senses T.disk T.counts K.store K.counts G.ring G.counts) self.new }
     {
         self.ledger.reserve()?;
         self.tracker.reserve()?;
@@ -366,10 +384,11 @@ impl<T: TreeDisk, K: Keystore> Book<T, K> {
 
     /// Gives the reply of the command that the actor runs; one that failed lists what it held.
     fn reply(&mut self, actor: Actor, reply: Reply) -> Result<(), NoMemory>
-        requires { RepliesNext (seen (senses T.disk T.counts K.store K.counts) self.old) actor reply }
-        ensures replied { OnOk result (GoesOn (senses T.disk T.counts K.store K.counts) self.old self.new actor) }
+        requires { RepliesNext (seen (senses T.disk T.counts K.store K.counts G.ring G.counts) self.old) actor reply }
+        ensures replied { OnOk result
+            (GoesOn (senses T.disk T.counts K.store K.counts G.ring G.counts) self.old self.new actor) }
         ensures refused { OnErr result (self.new ≡ self.old) }
-        ensures whole { IsWhole (senses T.disk T.counts K.store K.counts) self.new }
+        ensures whole { IsWhole (senses T.disk T.counts K.store K.counts G.ring G.counts) self.new }
     {
         let Some(it) = self.docket.running(actor) else {
             unreachable!()
@@ -386,7 +405,7 @@ impl<T: TreeDisk, K: Keystore> Book<T, K> {
     /// The first actor that has a running command or a queue, in the order of actors.
     pub fn first_busy(&self) -> Option<Actor>
         ensures busy { IsNextBusy self.now.docket None result }
-        ensures whole { IsWhole (senses T.disk T.counts K.store K.counts) self.now }
+        ensures whole { IsWhole (senses T.disk T.counts K.store K.counts G.ring G.counts) self.now }
     {
         self.docket.next_busy(None)
     }
@@ -394,7 +413,7 @@ impl<T: TreeDisk, K: Keystore> Book<T, K> {
     /// The next such actor after another.
     pub fn next_busy(&self, after: Actor) -> Option<Actor>
         ensures busy { IsNextBusy self.now.docket (Some after) result }
-        ensures whole { IsWhole (senses T.disk T.counts K.store K.counts) self.now }
+        ensures whole { IsWhole (senses T.disk T.counts K.store K.counts G.ring G.counts) self.now }
     {
         self.docket.next_busy(Some(after))
     }
@@ -402,7 +421,7 @@ impl<T: TreeDisk, K: Keystore> Book<T, K> {
     /// The journal so far.
     pub fn journal(&self) -> &Journal
         ensures entries { result.now.entries ≡ self.now.ledger.entries }
-        ensures whole { IsWhole (senses T.disk T.counts K.store K.counts) self.now }
+        ensures whole { IsWhole (senses T.disk T.counts K.store K.counts G.ring G.counts) self.now }
     {
         self.ledger.journal()
     }
@@ -410,7 +429,7 @@ impl<T: TreeDisk, K: Keystore> Book<T, K> {
     /// The actor of each counted call that `advance` made, in order.
     pub fn callers(&self) -> &[Actor]
         ensures callers { result.now ≡ self.now.ledger.callers }
-        ensures whole { IsWhole (senses T.disk T.counts K.store K.counts) self.now }
+        ensures whole { IsWhole (senses T.disk T.counts K.store K.counts G.ring G.counts) self.now }
     {
         self.ledger.callers()
     }
@@ -418,7 +437,7 @@ impl<T: TreeDisk, K: Keystore> Book<T, K> {
     /// What was given to `stop`, in order.
     pub fn orders(&self) -> &[Order]
         ensures orders { result.now ≡ self.now.ledger.orders }
-        ensures whole { IsWhole (senses T.disk T.counts K.store K.counts) self.now }
+        ensures whole { IsWhole (senses T.disk T.counts K.store K.counts G.ring G.counts) self.now }
     {
         self.ledger.orders()
     }
@@ -426,7 +445,7 @@ impl<T: TreeDisk, K: Keystore> Book<T, K> {
     /// Where the command of the number stands.
     pub fn standing(&self, number: u64) -> Standing
         ensures standing { result ≡ standing_of self.now number }
-        ensures whole { IsWhole (senses T.disk T.counts K.store K.counts) self.now }
+        ensures whole { IsWhole (senses T.disk T.counts K.store K.counts G.ring G.counts) self.now }
     {
         if number < self.docket.count() as u64 {
             standings::stands_in(self.ledger.journal().as_slice(), number)
@@ -438,7 +457,7 @@ impl<T: TreeDisk, K: Keystore> Book<T, K> {
     /// Whether the machine takes every command: it never stopped, or a recovery ended since it started again.
     pub fn ready(&self) -> bool
         ensures ready { IsTrue result ↔ (self.now.tracker.phase ≡ Up) }
-        ensures whole { IsWhole (senses T.disk T.counts K.store K.counts) self.now }
+        ensures whole { IsWhole (senses T.disk T.counts K.store K.counts G.ring G.counts) self.now }
     {
         self.tracker.phase() == Phase::Up
     }
@@ -446,7 +465,7 @@ impl<T: TreeDisk, K: Keystore> Book<T, K> {
     /// Whether the machine stopped and didn't start again.
     pub fn stopped(&self) -> bool
         ensures stopped { IsTrue result ↔ (self.now.tracker.phase ≡ Halted) }
-        ensures whole { IsWhole (senses T.disk T.counts K.store K.counts) self.now }
+        ensures whole { IsWhole (senses T.disk T.counts K.store K.counts G.ring G.counts) self.now }
     {
         self.tracker.phase() == Phase::Halted
     }
@@ -454,7 +473,7 @@ impl<T: TreeDisk, K: Keystore> Book<T, K> {
     /// How often the machine started again.
     pub fn boot(&self) -> u64
         ensures boot { result ≡ self.now.tracker.boot }
-        ensures whole { IsWhole (senses T.disk T.counts K.store K.counts) self.now }
+        ensures whole { IsWhole (senses T.disk T.counts K.store K.counts G.ring G.counts) self.now }
     {
         self.tracker.boot()
     }
@@ -462,7 +481,7 @@ impl<T: TreeDisk, K: Keystore> Book<T, K> {
     /// The machine's level, at which it may start again.
     pub fn level(&self) -> u32
         ensures level { result ≡ self.now.tracker.level }
-        ensures whole { IsWhole (senses T.disk T.counts K.store K.counts) self.now }
+        ensures whole { IsWhole (senses T.disk T.counts K.store K.counts G.ring G.counts) self.now }
     {
         self.tracker.level()
     }
@@ -474,10 +493,11 @@ impl<T: TreeDisk, K: Keystore> Book<T, K> {
     /// Those of the device's `list`. Nothing but the device's counts changes, whatever the answer.
     pub fn places(&mut self) -> Result<Vec<Place>, DevFault>
         ensures listed { IfOk result (λ places. places.items ≡ map.keys (view (T.disk self.old.bench.tree))) }
-        ensures same { IsLooked (senses T.disk T.counts K.store K.counts) self.old self.new }
+        ensures same { IsLooked (senses T.disk T.counts K.store K.counts G.ring G.counts) self.old self.new }
         ensures counted { IsCounted (T.counts self.old.bench.tree) (T.counts self.new.bench.tree) result }
         ensures store { self.new.bench.store ≡ self.old.bench.store }
-        ensures whole { IsWhole (senses T.disk T.counts K.store K.counts) self.new }
+        ensures ring { self.new.bench.ring ≡ self.old.bench.ring }
+        ensures whole { IsWhole (senses T.disk T.counts K.store K.counts G.ring G.counts) self.new }
     {
         self.bench.tree.list(self.alloc)
     }
@@ -490,10 +510,11 @@ impl<T: TreeDisk, K: Keystore> Book<T, K> {
     pub fn read_place(&mut self, place: Place) -> Result<Dir, DevFault>
         requires { IsSome (map.get (view (T.disk self.old.bench.tree)) place) }
         ensures found { IfOk result (λ files. map.get (view (T.disk self.old.bench.tree)) place ≡ Some files) }
-        ensures same { IsLooked (senses T.disk T.counts K.store K.counts) self.old self.new }
+        ensures same { IsLooked (senses T.disk T.counts K.store K.counts G.ring G.counts) self.old self.new }
         ensures counted { IsCounted (T.counts self.old.bench.tree) (T.counts self.new.bench.tree) result }
         ensures store { self.new.bench.store ≡ self.old.bench.store }
-        ensures whole { IsWhole (senses T.disk T.counts K.store K.counts) self.new }
+        ensures ring { self.new.bench.ring ≡ self.old.bench.ring }
+        ensures whole { IsWhole (senses T.disk T.counts K.store K.counts G.ring G.counts) self.new }
     {
         self.bench.tree.read(self.alloc, place)
     }
@@ -505,10 +526,11 @@ impl<T: TreeDisk, K: Keystore> Book<T, K> {
     /// Those of the device's `list`. Nothing but the device's counts changes, whatever the answer.
     pub fn blobs(&mut self) -> Result<Vec<(Blob, Tag)>, DevFault>
         ensures listed { IfOk result (λ rows. rows.items ≡ listed (K.store self.old.bench.store)) }
-        ensures same { IsLooked (senses T.disk T.counts K.store K.counts) self.old self.new }
+        ensures same { IsLooked (senses T.disk T.counts K.store K.counts G.ring G.counts) self.old self.new }
         ensures counted { IsCounted (K.counts self.old.bench.store) (K.counts self.new.bench.store) result }
         ensures tree { self.new.bench.tree ≡ self.old.bench.tree }
-        ensures whole { IsWhole (senses T.disk T.counts K.store K.counts) self.new }
+        ensures ring { self.new.bench.ring ≡ self.old.bench.ring }
+        ensures whole { IsWhole (senses T.disk T.counts K.store K.counts G.ring G.counts) self.new }
     {
         self.bench.store.list(self.alloc)
     }
@@ -516,7 +538,7 @@ impl<T: TreeDisk, K: Keystore> Book<T, K> {
     /// The tree device, for looks.
     pub fn tree(&self) -> &T
         ensures tree { result.now ≡ self.now.bench.tree }
-        ensures whole { IsWhole (senses T.disk T.counts K.store K.counts) self.now }
+        ensures whole { IsWhole (senses T.disk T.counts K.store K.counts G.ring G.counts) self.now }
     {
         &self.bench.tree
     }
@@ -524,38 +546,50 @@ impl<T: TreeDisk, K: Keystore> Book<T, K> {
     /// The keystore, for looks.
     pub fn store(&self) -> &K
         ensures store { result.now ≡ self.now.bench.store }
-        ensures whole { IsWhole (senses T.disk T.counts K.store K.counts) self.now }
+        ensures whole { IsWhole (senses T.disk T.counts K.store K.counts G.ring G.counts) self.now }
     {
         &self.bench.store
     }
 
+    /// The key ring, for looks.
+    pub fn ring(&self) -> &G
+        ensures ring { result.now ≡ self.now.bench.ring }
+        ensures whole { IsWhole (senses T.disk T.counts K.store K.counts G.ring G.counts) self.now }
+    {
+        &self.bench.ring
+    }
+
     /// The journal and the devices.
-    pub fn into_parts(self) -> (Journal, T, K)
+    pub fn into_parts(self) -> (Journal, T, K, G)
         ensures journal { result.0.entries ≡ self.ledger.entries }
         ensures tree { result.1 ≡ self.bench.tree }
         ensures store { result.2 ≡ self.bench.store }
-        ensures whole { IsWhole (senses T.disk T.counts K.store K.counts) self }
+        ensures ring { result.3 ≡ self.bench.ring }
+        ensures whole { IsWhole (senses T.disk T.counts K.store K.counts G.ring G.counts) self }
     {
         let Book { bench, ledger, .. } = self;
-        (ledger.into_journal(), bench.tree, bench.store)
+        (ledger.into_journal(), bench.tree, bench.store, bench.ring)
     }
 
     /// The machine stops. Of the operations since the last sync the first `cut.keep` stay, each write with the bytes
-    /// of its fill; running commands are lost, queued ones stay.
+    /// of its fill; no key stays in the ring, running commands are lost, and queued ones stay.
     ///
     /// # Errors
     ///
     /// Where memory ran out, nothing changed.
     pub fn stop(&mut self, cut: Cut) -> Result<(), NoMemory>
         requires { self.old.tracker.phase ≢ Halted }
-        ensures stopped { OnOk result (IsStopped (senses T.disk T.counts K.store K.counts) self.old self.new cut) }
-        ensures refused { OnErr result (IsSame (senses T.disk T.counts K.store K.counts) self.old self.new) }
-        ensures whole { IsWhole (senses T.disk T.counts K.store K.counts) self.new }
+        ensures stopped { OnOk result
+            (IsStopped (senses T.disk T.counts K.store K.counts G.ring G.counts) self.old self.new cut) }
+        ensures refused { OnErr result
+            (IsSame (senses T.disk T.counts K.store K.counts G.ring G.counts) self.old self.new) }
+        ensures whole { IsWhole (senses T.disk T.counts K.store K.counts G.ring G.counts) self.new }
     {
         let order = Order::Stop(cut.duplicate(self.alloc)?);
         self.ledger.reserve()?;
         let kept = self.tracker.survivors(cut.keep);
         self.bench.tree.stop(cut);
+        self.bench.ring.clear();
         self.bench.list.clear();
         self.docket.stop();
         self.tracker.stop(kept);
@@ -571,10 +605,10 @@ impl<T: TreeDisk, K: Keystore> Book<T, K> {
         requires level { level ≡ self.old.tracker.level }
         ensures number { IfOk result (λ number. number ≡ length self.old.docket.commands) }
         ensures restarted { OnOk result
-            (IsRestarted (senses T.disk T.counts K.store K.counts) self.old self.new level) }
+            (IsRestarted (senses T.disk T.counts K.store K.counts G.ring G.counts) self.old self.new level) }
         ensures refused { OnErr result (self.new ≡ self.old) }
         ensures full { (result ≡ Err EnqueueFault.Full) ↔ (length self.old.docket.commands ≡ max_commands) }
-        ensures whole { IsWhole (senses T.disk T.counts K.store K.counts) self.new }
+        ensures whole { IsWhole (senses T.disk T.counts K.store K.counts G.ring G.counts) self.new }
     {
         if self.is_full() {
             return Err(EnqueueFault::Full);
@@ -592,9 +626,9 @@ impl<T: TreeDisk, K: Keystore> Book<T, K> {
         requires few { length self.old.docket.commands < max_commands }
         ensures number { IfOk result (λ number. number ≡ length self.old.docket.commands) }
         ensures restarted { OnOk result
-            (IsRestarted (senses T.disk T.counts K.store K.counts) self.old self.new level) }
+            (IsRestarted (senses T.disk T.counts K.store K.counts G.ring G.counts) self.old self.new level) }
         ensures refused { OnErr result (self.new ≡ self.old) }
-        ensures whole { IsWhole (senses T.disk T.counts K.store K.counts) self.new }
+        ensures whole { IsWhole (senses T.disk T.counts K.store K.counts G.ring G.counts) self.new }
     {
         let boot = self.tracker.boot() + 1;
         self.ledger.reserve()?;
@@ -609,9 +643,10 @@ impl<T: TreeDisk, K: Keystore> Book<T, K> {
 }
 
 /// The bench as a command begins: one that begins anew knows nothing of the tree, and finds nothing listed.
-fn begin_on<T: TreeDisk, K: Keystore>(bench: &mut Bench<T, K>, anew: bool)
+fn begin_on<T: TreeDisk, K: Keystore, G: KeyRing>(bench: &mut Bench<T, K, G>, anew: bool)
     ensures tree { bench.new.tree ≡ bench.old.tree }
     ensures store { bench.new.store ≡ bench.old.store }
+    ensures ring { bench.new.ring ≡ bench.old.ring }
     ensures seed { bench.new.seed ≡ bench.old.seed }
     ensures places { bench.new.table.places ≡ cond anew map.empty bench.old.table.places }
     ensures list { bench.new.list ≡ cond anew (unlisted bench.old.list) bench.old.list }

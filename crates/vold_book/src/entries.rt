@@ -28,6 +28,10 @@ fn done_entry(call: &Call, change: Option<LocalChange>, number: u64) -> Option<E
             None => None,
         },
         Call::Sync => Some(Entry::Synced),
+        Call::Add { user, class, .. } => Some(Entry::Installed {
+            user: *user,
+            class: *class,
+        }),
         _ => None,
     }
 }

@@ -10,4 +10,5 @@ pub struct Counted {
 pub struct Opened {
     pub tree: Counted,
     pub store: Counted,
+    pub ring: Counted,
 }

@@ -142,5 +142,6 @@ pub fn fault_of(device: Device) -> Reply
     match device {
         Device::Tree => Reply::TreeFault,
         Device::Store => Reply::StoreFault,
+        Device::Ring => Reply::RingFault,
     }
 }

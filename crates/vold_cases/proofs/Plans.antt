@@ -8,6 +8,7 @@ use Rattle.std.proofs.lemmas.List.Elements.{Contains-append_left, Contains-push,
 use Rattle.tree_model.specs.Counted.{Counts, Plan, IsPlanned, planned_more}
 use Rattle.journal_model.specs.declared.entries.Device.{Device}
 use Rattle.journal_model.specs.declared.entries.Device.TheVariants.{Tree as TreeDevice, Store as StoreDevice}
+use Rattle.journal_model.specs.declared.entries.Device.TheVariants.{Ring as RingDevice}
 use Rattle.vold_cases.specs.declared.case.Planned.{Planned}
 use Rattle.vold_cases.specs.Played.{calls_of, number_at, ArePlanned, HasNumbers, Plans}
 
@@ -56,7 +57,7 @@ planned_more_at device faults fault before after own small were planned =
           were.calls small were.planned planned.told planned.planned);
     }
 
--- one of the other device's is not
+-- one of another device's is not
 planned_same : (device : Device) (faults : List Planned) (fault : Planned) (before after : Counts)
     → number_at device fault.device fault.call ≡ [] → ArePlanned device faults before → after ≡ before
     → ArePlanned device (faults ++ fault ∷ []) after
@@ -70,26 +71,29 @@ planned_same device faults fault before after other were same =
       planned = subst (λ ns. IsSomeAnd before.plan (HasNumbers ns)) (sym numbers) were.planned;
     })
 
+-- a fault is the device's own, and planned there, or it is another's, and changes nothing
+own-or-other : (device other : Device) (call : ℕ) (before after : Counts) → Plans device other call before after
+    → ((number_at device other call ≡ call ∷ []) × IsPlanned before after call)
+    ⊎ ((number_at device other call ≡ []) × (after ≡ before))
+own-or-other TreeDevice TreeDevice call before after plans = inl (refl, plans)
+own-or-other TreeDevice StoreDevice call before after plans = inr (refl, plans)
+own-or-other TreeDevice RingDevice call before after plans = inr (refl, plans)
+own-or-other StoreDevice TreeDevice call before after plans = inr (refl, plans)
+own-or-other StoreDevice StoreDevice call before after plans = inl (refl, plans)
+own-or-other StoreDevice RingDevice call before after plans = inr (refl, plans)
+own-or-other RingDevice TreeDevice call before after plans = inr (refl, plans)
+own-or-other RingDevice StoreDevice call before after plans = inr (refl, plans)
+own-or-other RingDevice RingDevice call before after plans = inl (refl, plans)
+
 -- one more fault
 fault_more : (device : Device) (faults : List Planned) (fault : Planned) (before after : Counts)
     → fault.call < 2 ^ 64 → ArePlanned device faults before → Plans device fault.device fault.call before after
     → ArePlanned device (faults ++ fault ∷ []) after
-fault_more device faults fault before after small were plans = by device fault.device refl were plans
-  where
-    by : (own other : Device) → fault.device ≡ other → ArePlanned own faults before
-        → Plans own other fault.call before after → ArePlanned own (faults ++ fault ∷ []) after
-    by TreeDevice TreeDevice is were plans =
-        planned_more_at TreeDevice faults fault before after
-        (ap (λ d. number_at TreeDevice d fault.call) is) small were plans
-    by StoreDevice StoreDevice is were plans =
-        planned_more_at StoreDevice faults fault before after
-        (ap (λ d. number_at StoreDevice d fault.call) is) small were plans
-    by TreeDevice StoreDevice is were plans =
-        planned_same TreeDevice faults fault before after (ap (λ d. number_at TreeDevice d fault.call) is) were
-        plans
-    by StoreDevice TreeDevice is were plans =
-        planned_same StoreDevice faults fault before after (ap (λ d. number_at StoreDevice d fault.call) is)
-        were plans
+fault_more device faults fault before after small were plans =
+    elim (own-or-other device fault.device fault.call before after plans) [
+      | inl own ↦ planned_more_at device faults fault before after own.0 small were own.1
+      | inr other ↦ planned_same device faults fault before after other.0 were other.1
+    ]
 
 -- the next fault of those
 pub fault_planned : (device : Device) (faults : List Planned) (i : ℕ) (fault : Planned) (before after : Counts)

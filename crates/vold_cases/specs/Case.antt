@@ -2,7 +2,7 @@
 use Rattle.std.specs.Prelude.{◌≡◌, ◌≢◌, ℕ, ◌<◌, ◌^◌, List, [], ◌∷◌, ◌++◌, map, flat_map, codes, All}
 use Rattle.std.specs.String.{string_bytes}
 use Rattle.journal_model.specs.declared.entries.Device.{Device}
-use Rattle.journal_model.specs.declared.entries.Device.TheVariants.{Tree, Store}
+use Rattle.journal_model.specs.declared.entries.Device.TheVariants.{Tree, Store, Ring}
 use Rattle.script_text.specs.Reading.{Lacks, words_in}
 use Rattle.script_text.specs.Words.{decimal, joined}
 use Rattle.vold_cases.specs.declared.case.Planned.{Planned}
@@ -11,6 +11,7 @@ use Rattle.vold_cases.specs.declared.case.Case.{Case}
 abbrev pub device_word : Device → List ℕ
 device_word Tree = codes "tree"
 device_word Store = codes "store"
+device_word Ring = codes "ring"
 
 -- a line, with its line feed
 abbrev pub ended : List ℕ → List ℕ

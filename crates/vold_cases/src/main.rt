@@ -1,7 +1,7 @@
-//! Runs cases: scripts over a source, a sink, a tree and a keystore in memory, with the faults that each case plans.
-//! Standard input has the cases; standard output gets what each run wrote and the number that it ended with, or one
-//! line that tells what is wrong with the input. The program ends with 0, where its input is wrong with 1, and where
-//! standard input, standard output or memory fails with the number that a run has for it.
+//! Runs cases: scripts over a source, a sink, a tree, a keystore and a key ring in memory, with the faults that each
+//! case plans. Standard input has the cases; standard output gets what each run wrote and the number that it ended
+//! with, or one line that tells what is wrong with the input. The program ends with 0, where its input is wrong with
+//! 1, and where standard input, standard output or memory fails with the number that a run has for it.
 #![tactic(auto)]
 
 mod case;

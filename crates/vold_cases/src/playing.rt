@@ -1,11 +1,14 @@
 ghost use Rattle.std.specs.Prelude.{◌≡◌, ◌≤◌, IfOk, OnOk};
 ghost use Rattle.journal_model.specs.declared.entries.Device.TheVariants.{Tree as TreeDevice, Store as StoreDevice};
-ghost use Rattle.vold_cases.specs.Played.{report_of, IsPlannedStore, IsPlannedTree, Plans, PrintsCase};
+ghost use Rattle.journal_model.specs.declared.entries.Device.TheVariants.{Ring as RingDevice};
+ghost use Rattle.key_ring.specs.Kept.{once};
+ghost use Rattle.vold_cases.specs.Played.{report_of, IsPlannedRing, IsPlannedStore, IsPlannedTree, Plans, PrintsCase};
 
 use crate::case::{Case, Planned};
 use crate::reading::cases_in;
 use crate::refusal::{Refusal, refusal_line};
 use journal_model::Device;
+use key_ring::{KeyRing, MemRing};
 use keystore_memory::MemKeystore;
 use keystore_model::Keystore;
 use std::alloc::Global;
@@ -42,6 +45,7 @@ fn played(alloc: Global, case: &Case) -> Result<Bytes, NoMemory>
 {
     let tree = planned_tree(alloc, case.faults.as_slice())?;
     let store = planned_store(alloc, case.faults.as_slice())?;
+    let ring = planned_ring(alloc, case.faults.as_slice())?;
     let script = Bytes::copy(alloc, case.script.as_bytes())?;
     let mut source = MemSource::new(script, None);
     let mut sink = MemSink::new(alloc, None);
@@ -52,6 +56,7 @@ fn played(alloc: Global, case: &Case) -> Result<Bytes, NoMemory>
         &mut sink,
         tree,
         store,
+        ring,
     );
     report(
         alloc,
@@ -80,7 +85,7 @@ fn plan_in_tree(tree: &mut MemTree, device: Device, call: u64) -> Result<(), NoM
 {
     match device {
         Device::Tree => tree.plan_fault(call),
-        Device::Store => Ok(()),
+        Device::Store | Device::Ring => Ok(()),
     }
 }
 
@@ -102,8 +107,31 @@ fn plan_in_store(store: &mut MemKeystore, device: Device, call: u64) -> Result<(
     ensures planned { OnOk result (Plans StoreDevice device call store.old.counts store.new.counts) }
 {
     match device {
-        Device::Tree => Ok(()),
+        Device::Tree | Device::Ring => Ok(()),
         Device::Store => store.plan_fault(call),
+    }
+}
+
+/// A key ring in memory, before its first call, of which the planned calls fail.
+fn planned_ring(alloc: Global, faults: &[Planned]) -> Result<MemRing, NoMemory>
+    ensures { IfOk result (λ ring. IsPlannedRing faults.now ring) }
+{
+    let mut ring = MemRing::new(alloc)?;
+    for fault in faults {
+        plan_in_ring(&mut ring, fault.device, u64::from(fault.call))?;
+    }
+    Ok(ring)
+}
+
+/// Plans that the call fails, where it is one of the key ring.
+fn plan_in_ring(ring: &mut MemRing, device: Device, call: u64) -> Result<(), NoMemory>
+    requires { 1 ≤ call }
+    ensures same { once ring.new.keys ≡ once ring.old.keys }
+    ensures planned { OnOk result (Plans RingDevice device call ring.old.counts ring.new.counts) }
+{
+    match device {
+        Device::Tree | Device::Store => Ok(()),
+        Device::Ring => ring.plan_fault(call),
     }
 }
 

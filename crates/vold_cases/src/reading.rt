@@ -163,6 +163,7 @@ fn device_named(word: &str) -> Option<Device>
     match word {
         "tree" => Some(Device::Tree),
         "store" => Some(Device::Store),
+        "ring" => Some(Device::Ring),
         _ => None,
     }
 }

@@ -1,6 +1,7 @@
-//! The program: a run over standard input and output, with a tree and a keystore in memory.
+//! The program: a run over standard input and output, with a tree, a keystore and a key ring in memory.
 #![tactic(auto)]
 
+use key_ring::MemRing;
 use keystore_memory::MemKeystore;
 use script_text::Status;
 use std::env;
@@ -23,7 +24,16 @@ fn ended<W: Write + Drop>(rt: &HostRuntime, sink: &mut WriteSink<W>) -> Result<S
     let mut source = ReadSource::new(rt.stdin());
     let tree = MemTree::new(rt.alloc())?;
     let store = MemKeystore::new(rt.alloc())?;
-    let end = run(rt.alloc(), words.as_slice(), &mut source, sink, tree, store);
+    let ring = MemRing::new(rt.alloc())?;
+    let end = run(
+        rt.alloc(),
+        words.as_slice(),
+        &mut source,
+        sink,
+        tree,
+        store,
+        ring,
+    );
     Ok(end.status)
 }
 

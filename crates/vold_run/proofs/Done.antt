@@ -14,8 +14,8 @@ use Rattle.vold_run.specs.Lines.{commands_of, orders_of, AreLinesDone, EndsIdle,
 use Rattle.vold_run.specs.Shown.{Shows}
 use Rattle.vold_run.specs.Ends.{IsDone}
 
-pub shown_is_done : {D E : Type 0} (senses : Senses D E) (start : BookState (BenchState D E)) (lines : List Line)
-    (worked book : BookState (BenchState D E)) → IsFresh start lines → AreLinesDone senses None lines start worked
+pub shown_is_done : {D E F : Type 0} (senses : Senses D E F) (start : BookState (BenchState D E F)) (lines : List Line)
+    (worked book : BookState (BenchState D E F)) → IsFresh start lines → AreLinesDone senses None lines start worked
     → IsWhole senses book → IsLooked senses worked book
     → (text : List ℕ) → Shows (seen senses worked) (seen senses book) text → IsDone senses start lines book text
 shown_is_done senses start lines worked book fresh done whole looked text shown =
@@ -37,7 +37,7 @@ shown_is_done senses start lines worked book fresh done whole looked text shown 
     }
 
 -- a Book as it is opened waits for its lines
-pub fresh-between : {D E : Type 0} (senses : Senses D E) (book : BookState (BenchState D E)) (lines : List Line)
+pub fresh-between : {D E F : Type 0} (senses : Senses D E F) (book : BookState (BenchState D E F)) (lines : List Line)
     → IsWhole senses book → IsFresh book lines → IsBetweenLines senses book
 fresh-between senses book lines whole fresh = record {
   whole = whole;

@@ -16,7 +16,7 @@ use Rattle.docket.specs.Docket.{with_queue}
 use Rattle.vold_book.specs.Turns.{Answers, Turns}
 use Rattle.docket.proofs.Accounts.{at_actors}
 use Rattle.vold_run.specs.Lines.{IsInOrder, IsBetweenLines, IsKept}
-use Rattle.vold_run.proofs.Counted.{answers-count, counts-joined, counts-same, devices-same}
+use Rattle.vold_run.proofs.Counted.{answers-count, counts-joined, counts-same}
 
 abbrev Waiting : Type 0
 Waiting = map.FinMap actor_cmp (List ℕ)
@@ -72,7 +72,7 @@ same-leaves before after same = record {
   order = λ order. subst (λ b. AreInOrder b.docket.waiting) (sym same) order;
 }
 
-module _ {D E : Type 0} (senses : Senses D E) (before after : BookState (BenchState D E)) (actor : Actor) where
+module _ {D E F : Type 0} (senses : Senses D E F) (before after : BookState (BenchState D E F)) (actor : Actor) where
   turn-leaves : Turns senses before after actor → Leaves before after
   turn-leaves (inl (none, begins)) = record {
     commands = ap (λ b. b.docket.commands) begins.state;
@@ -120,18 +120,18 @@ module _ {D E : Type 0} (senses : Senses D E) (before after : BookState (BenchSt
         between = record { whole = whole; level = leaves.level ∙ between.level; order = leaves.order between.order };
       }
 
-module _ {D E : Type 0} (senses : Senses D E) where
-  pub kept-same : (book : BookState (BenchState D E)) → IsBetweenLines senses book → IsKept senses book book
+module _ {D E F : Type 0} (senses : Senses D E F) where
+  pub kept-same : (book : BookState (BenchState D E F)) → IsBetweenLines senses book → IsKept senses book book
   kept-same book between = record {
     commands = refl;
     orders = refl;
     seed = refl;
-    counted = counts-same senses book book (devices-same senses book book refl refl) refl;
+    counted = counts-same senses book book refl refl;
     still = λ differ. differ;
     between = between;
   }
 
-  pub kept-joined : (before between after : BookState (BenchState D E)) → IsKept senses before between
+  pub kept-joined : (before between after : BookState (BenchState D E F)) → IsKept senses before between
       → IsKept senses between after → IsKept senses before after
   kept-joined before between after first second = record {
     commands = second.commands ∙ first.commands;

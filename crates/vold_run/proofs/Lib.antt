@@ -4,6 +4,7 @@ pub mod Dirs
 pub mod Devices
 pub mod Done
 pub mod Kept
+pub mod Keys
 pub mod LineDone
 pub mod Looks
 pub mod Placed

@@ -28,7 +28,7 @@ use Rattle.vold_book.specs.Turns.{with_command, IsEnqueued}
 use Rattle.vold_run.specs.Fits.{AllFits, TurnsOf, history_of}
 use Rattle.vold_run.specs.Lines.{IsBetweenLines, IsKept, IsLineDone}
 use Rattle.vold_run.specs.Rounds.{NothingLeft}
-use Rattle.vold_run.proofs.Counted.{counts-same, devices-same}
+use Rattle.vold_run.proofs.Counted.{all_counts, counts_in, counts-same}
 use Rattle.vold_run.proofs.Kept.{AreInOrder}
 use Rattle.vold_run.proofs.Queued.{order-given, order-restarted}
 
@@ -42,7 +42,7 @@ no-more keep count is = omega (arith, is)
 down-runs : Down ≢ Halted
 down-runs e = cc
 
-module _ {D E : Type 0} (senses : Senses D E) (before after : BookState (BenchState D E))
+module _ {D E F : Type 0} (senses : Senses D E F) (before after : BookState (BenchState D E F))
     (between : IsBetweenLines senses before) where
   pub seed-done : (bytes : List ℕ) → before.tracker.phase ≢ Halted → after ≡ before
       → IsLineDone senses (Seed bytes) before after
@@ -51,9 +51,8 @@ module _ {D E : Type 0} (senses : Senses D E) (before after : BookState (BenchSt
     orders = ap (λ b. b.ledger.orders) same ∙ sym (append-nil before.ledger.orders);
     seed = ap (λ b. b.seed) same;
     fits = ap history_of same;
-    counted = counts-same senses before after
-        (devices-same senses before after (ap (λ b. b.bench.tree) same) (ap (λ b. b.bench.store) same))
-        (ap (λ b. b.ledger.callers) same);
+    counted =
+        counts-same senses before after (ap (counts_in senses) same) (ap (λ b. b.ledger.callers) same);
     idle = λ is. cc;
     still = subst (λ b. b.tracker.phase ≢ Halted) (sym same) ready;
     between = subst (IsBetweenLines senses) (sym same) between;
@@ -67,9 +66,8 @@ module _ {D E : Type 0} (senses : Senses D E) (before after : BookState (BenchSt
     orders = ap (λ b. b.ledger.orders) state ∙ sym (append-nil before.ledger.orders);
     seed = ap (λ b. b.seed) state;
     fits = ap history_of state;
-    counted = counts-same senses before after
-        (devices-same senses before after (ap (λ b. b.bench.tree) state) (ap (λ b. b.bench.store) state))
-        (ap (λ b. b.ledger.callers) state);
+    counted =
+        counts-same senses before after (ap (counts_in senses) state) (ap (λ b. b.ledger.callers) state);
     idle = λ is. cc;
     still = subst (λ b. b.tracker.phase ≢ Halted) (sym state) ready;
     between = record {
@@ -131,9 +129,8 @@ module _ {D E : Type 0} (senses : Senses D E) (before after : BookState (BenchSt
       left = ap history_of stopped.state;
       none = λ is. none-survive cut.keep is;
     };
-    counted = counts-same senses before after
-        (record { tree = ap (λ s. s.tree_counts) stopped.left; store = ap (λ s. s.store_counts) stopped.left })
-        (ap (λ b. b.ledger.callers) stopped.state);
+    counted =
+        counts-same senses before after (ap all_counts stopped.left) (ap (λ b. b.ledger.callers) stopped.state);
     idle = λ is. cc;
     still = ap (λ b. b.tracker.phase) stopped.state;
     between = record {
@@ -163,9 +160,8 @@ module _ {D E : Type 0} (senses : Senses D E) (before after : BookState (BenchSt
           calls = before.ledger.callers;
         })
         (sym between.whole.agrees.boot);
-    counted = counts-same senses before after
-        (record { tree = ap (λ s. s.tree_counts) restarted.same; store = ap (λ s. s.store_counts) restarted.same })
-        (ap (λ b. b.ledger.callers) restarted.state);
+    counted =
+        counts-same senses before after (ap all_counts restarted.same) (ap (λ b. b.ledger.callers) restarted.state);
     idle = λ is. cc;
     still = λ halted. down-runs (sym (ap (λ b. b.tracker.phase) restarted.state) ∙ halted);
     between = record {

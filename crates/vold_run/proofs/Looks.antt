@@ -50,7 +50,7 @@ failed_look before after result failed counted =
     )) counted
 
 -- looks one after another are looks
-pub looked-joined : {D E : Type 0} (senses : Senses D E) (before between after : BookState (BenchState D E))
+pub looked-joined : {D E F : Type 0} (senses : Senses D E F) (before between after : BookState (BenchState D E F))
     → IsLooked senses before between → IsLooked senses between after → IsLooked senses before after
 looked-joined senses before between after first second = record {
   state = second.state ∙ ap (λ book. over book after.bench) first.state;
@@ -59,10 +59,11 @@ looked-joined senses before between after first second = record {
       ∙ ap (λ (bench : Plain). record bench {
         tree_counts = (seen senses after).bench.tree_counts;
         store_counts = (seen senses after).bench.store_counts;
+        ring_counts = (seen senses after).bench.ring_counts;
       }) first.same;
 }
 
 -- they leave the disk
-pub disk-looked : {D E : Type 0} (senses : Senses D E) (before after : BookState (BenchState D E))
+pub disk-looked : {D E F : Type 0} (senses : Senses D E F) (before after : BookState (BenchState D E F))
     → IsLooked senses before after → senses.disk after.bench.tree ≡ senses.disk before.bench.tree
 disk-looked senses before after looked = ap (λ (bench : Plain). bench.disk) looked.same

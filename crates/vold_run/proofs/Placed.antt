@@ -16,7 +16,7 @@ use Rattle.vold_book.specs.State.{BookState}
 use Rattle.vold_run.specs.Fits.{History, LineFits, LinesFit, history_of}
 use Rattle.vold_run.specs.Lines.{command_of, order_of, commands_of, orders_of, last_of, StandsStill, IsReadyFor}
 use Rattle.vold_run.specs.Lines.{IsLineDone, AreLinesDone, IsBetweenLines, LeavesNothing}
-use Rattle.vold_run.proofs.Counted.{counts-same, counts-joined, devices-same}
+use Rattle.vold_run.proofs.Counted.{counts-same, counts-joined}
 
 runs_on : (stops : Bool) (phase : Phase) → IsTrue (not stops)
     → MatchBool stops (phase ≡ Halted) (phase ≢ Halted) → phase ≢ Halted
@@ -79,15 +79,15 @@ at_most_one (Stop cut) = omega arith
 at_most_one (Restart level) = omega arith
 
 -- a line gives at most one command
-pub few-more : {D E : Type 0} (senses : Senses D E) (line : Line) (before after : BookState (BenchState D E))
+pub few-more : {D E F : Type 0} (senses : Senses D E F) (line : Line) (before after : BookState (BenchState D E F))
     → IsLineDone senses line before after → length after.docket.commands ≤ length before.docket.commands + 1
 few-more senses line before after done =
     let one = at_most_one line in
     let all = ap length done.commands ∙ length-append before.docket.commands (command_of line) in
     omega (arith, one, all)
 
-module _ {D E : Type 0} (senses : Senses D E) (prior : Option Line) where
-  pub no-lines : (book : BookState (BenchState D E)) → StandsStill prior book.tracker.phase
+module _ {D E F : Type 0} (senses : Senses D E F) (prior : Option Line) where
+  pub no-lines : (book : BookState (BenchState D E F)) → StandsStill prior book.tracker.phase
       → IsBetweenLines senses book
       → AreLinesDone senses prior [] book book
   no-lines book still between = record {
@@ -95,7 +95,7 @@ module _ {D E : Type 0} (senses : Senses D E) (prior : Option Line) where
     orders = sym (append-nil book.ledger.orders);
     seed = refl;
     fits = refl;
-    counted = counts-same senses book book (devices-same senses book book refl refl) refl;
+    counted = counts-same senses book book refl refl;
     idle = λ before last is. absurd (never before last is);
     still = still;
     between = between;
@@ -105,7 +105,7 @@ module _ {D E : Type 0} (senses : Senses D E) (prior : Option Line) where
       never [] last is = cc
       never (first ∷ before) last is = cc
 
-  more : (lines : List Line) (line : Line) (before between after : BookState (BenchState D E))
+  more : (lines : List Line) (line : Line) (before between after : BookState (BenchState D E F))
       → AreLinesDone senses prior lines before between → IsLineDone senses line between after
       → AreLinesDone senses prior (lines ++ line ∷ []) before after
   more lines line before between after done then = record {
@@ -129,7 +129,7 @@ module _ {D E : Type 0} (senses : Senses D E) (prior : Option Line) where
   }
 
   -- the next line after the first ones
-  pub next-line : (lines : List Line) (i : ℕ) (line : Line) (before between after : BookState (BenchState D E))
+  pub next-line : (lines : List Line) (i : ℕ) (line : Line) (before between after : BookState (BenchState D E F))
       → i < length lines
       → AreLinesDone senses prior (take i lines) before between
       → IsLineDone senses (get_or lines i line) between after

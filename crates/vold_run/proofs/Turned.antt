@@ -75,7 +75,7 @@ idle-not : {B : Type 0} (book : BookState B) (actor : Actor) → IsIdle book act
 idle-not book actor idle (inl runs) = cc (runs, idle.0)
 idle-not book actor idle (inr waits) = cc (waits, idle.1)
 
-module _ {D E : Type 0} (senses : Senses D E) (before after : BookState (BenchState D E)) where
+module _ {D E F : Type 0} (senses : Senses D E F) (before after : BookState (BenchState D E F)) where
   -- a turn that went
   pub went : (actor : Actor) (turn : Turn) → turn ≡ Went → Answers senses before after actor turn
       → Goes senses before after actor
@@ -120,8 +120,8 @@ module _ {D E : Type 0} (senses : Senses D E) (before after : BookState (BenchSt
   may-turn actor Waits between waits =
       inr (λ work. waits.1 (work-takes senses before between.whole actor work), ap history_of waits.2)
 
-module _ {D E : Type 0} (senses : Senses D E) where
-  pub round-begins : (before after : BookState (BenchState D E)) (first : Actor) (next : Option Actor)
+module _ {D E F : Type 0} (senses : Senses D E F) where
+  pub round-begins : (before after : BookState (BenchState D E F)) (first : Actor) (next : Option Actor)
       → IsBetweenLines senses before → IsNextBusy before.docket None (Some first)
       → Goes senses before after first → IsNextBusy after.docket (Some first) next
       → RoundGoes (history_of before) after next
@@ -135,10 +135,9 @@ module _ {D E : Type 0} (senses : Senses D E) where
     coming = then;
   }
 
-  pub round-goes : (start : History) (before after : BookState (BenchState D E)) (actor : Actor) (next : Option Actor)
-      → RoundGoes start before (Some actor) → IsBetweenLines senses before → Goes senses before after actor
-      → IsNextBusy after.docket (Some actor) next
-      → RoundGoes start after next
+  pub round-goes : (start : History) (before after : BookState (BenchState D E F)) (actor : Actor)
+      (next : Option Actor) → RoundGoes start before (Some actor) → IsBetweenLines senses before
+      → Goes senses before after actor → IsNextBusy after.docket (Some actor) next → RoundGoes start after next
   round-goes start before after actor next going between goes then = record {
     actors = going.actors ++ actor ∷ [];
     last = actor;
@@ -149,7 +148,7 @@ module _ {D E : Type 0} (senses : Senses D E) where
     coming = then;
   }
 
-  pub round-ends : (start : History) (book : BookState (BenchState D E)) → RoundGoes start book None
+  pub round-ends : (start : History) (book : BookState (BenchState D E F)) → RoundGoes start book None
       → IsBetweenLines senses book → RoundFits start (history_of book)
   round-ends start book going between = record {
     actors = going.actors;
@@ -159,7 +158,7 @@ module _ {D E : Type 0} (senses : Senses D E) where
   }
 
   -- the next busy actor waits for the machine, and so do all behind it
-  pub round-waits : (start : History) (before after : BookState (BenchState D E)) (actor : Actor) (turn : Turn)
+  pub round-waits : (start : History) (before after : BookState (BenchState D E F)) (actor : Actor) (turn : Turn)
       → turn ≢ Went
       → RoundGoes start before (Some actor) → IsBetweenLines senses before
       → Answers senses before after actor turn → RoundFits start (history_of after)
@@ -174,7 +173,7 @@ module _ {D E : Type 0} (senses : Senses D E) where
       })
 
   -- when no actor is at work, the rounds are all
-  pub all-ends : (start : History) (book : BookState (BenchState D E)) (count : ℕ)
+  pub all-ends : (start : History) (book : BookState (BenchState D E F)) (count : ℕ)
       → RoundsFit count start (history_of book)
       → IsBetweenLines senses book → NothingLeft book → AllFits start (history_of book)
   all-ends start book count rounds between idle =

@@ -66,7 +66,7 @@ comes-itself Boot number = omega arith
 comes-itself Cp number = omega arith
 comes-itself (User user) number = omega arith
 
-module _ {D E : Type 0} (senses : Senses D E) (book : BookState (BenchState D E))
+module _ {D E F : Type 0} (senses : Senses D E F) (book : BookState (BenchState D E F))
     (whole : IsWhole senses book) where
   runs-run : (actor : Actor) (number : ℕ) → Runs (history_of book) actor number
       → IsSome (map.get book.docket.running actor)
@@ -157,7 +157,7 @@ module _ {D E : Type 0} (senses : Senses D E) (book : BookState (BenchState D E)
   pub idle-fits : NothingLeft book → NoWork (history_of book)
   idle-fits idle actor works = idle actor (work-busy actor works) (work-takes actor works)
 
-  begins-fits : (after : BookState (BenchState D E)) (actor : Actor)
+  begins-fits : (after : BookState (BenchState D E F)) (actor : Actor)
       → IfSome (map.get book.docket.waiting actor) (IsInOrder actor)
       → map.get book.docket.running actor ≡ None → Begins book after actor
       → BeginsNext (history_of book) actor (history_of after)
@@ -191,11 +191,13 @@ entry-noted : (number : ℕ) (entry : Option Entry) → IsNotedEntry number entr
     → (more : List Entry) × IsNoted number more × (with_entry entries entry ≡ entries ++ more)
 entry-noted number None noted entries = ([], inl refl, sym (append-nil entries))
 entry-noted number (Some entry) (inl is) entries = (entry ∷ [], inr (inl (ap (λ e. e ∷ []) is)), refl)
-entry-noted number (Some entry) (inr (change, is)) entries =
-    (entry ∷ [], inr (inr (change, ap (λ e. e ∷ []) is)), refl)
+entry-noted number (Some entry) (inr (inl (change, is))) entries =
+    (entry ∷ [], inr (inr (inl (change, ap (λ e. e ∷ []) is))), refl)
+entry-noted number (Some entry) (inr (inr (user, class, is))) entries =
+    (entry ∷ [], inr (inr (inr (user, class, ap (λ e. e ∷ []) is))), refl)
 
 -- a turn that went fits
-pub turn-fits : {D E : Type 0} (senses : Senses D E) (book after : BookState (BenchState D E)) (actor : Actor)
+pub turn-fits : {D E F : Type 0} (senses : Senses D E F) (book after : BookState (BenchState D E F)) (actor : Actor)
     → IsBetweenLines senses book → Goes senses book after actor
     → TurnFits (history_of book) actor (history_of after)
 turn-fits senses book after actor between goes = from goes.turn

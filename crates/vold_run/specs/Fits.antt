@@ -5,6 +5,7 @@ use Rattle.std.specs.Prelude.{Option, Some, None, IsSomeAnd, Contains, slice_get
 use Rattle.std.specs.declared.cmp.Ordering.TheVariants.{Less, Equal}
 use Rattle.std.specs.FinMap as map
 use Rattle.tree_model.specs.declared.ops.Cut.{Cut}
+use Rattle.tree_model.specs.declared.places.Class.{Class}
 use Rattle.journal_model.specs.declared.commands.Actor.{Actor}
 use Rattle.journal_model.specs.declared.commands.Actor.TheVariants.{Boot, Cp, User}
 use Rattle.journal_model.specs.declared.commands.Command.{Command}
@@ -12,7 +13,8 @@ use Rattle.journal_model.specs.declared.commands.Command.TheVariants.{Recover}
 use Rattle.journal_model.specs.declared.commands.Reply.{Reply}
 use Rattle.journal_model.specs.declared.entries.Change.{Change}
 use Rattle.journal_model.specs.declared.entries.Entry.{Entry}
-use Rattle.journal_model.specs.declared.entries.Entry.TheVariants.{Began, Changed, Synced, Stopped, Restarted, Replied}
+use Rattle.journal_model.specs.declared.entries.Entry.TheVariants.{Began, Changed, Synced, Installed}
+use Rattle.journal_model.specs.declared.entries.Entry.TheVariants.{Stopped, Restarted, Replied}
 use Rattle.journal_model.specs.Actor.{actor_cmp}
 use Rattle.journal_model.specs.Command.{actor_of}
 use Rattle.journal_model.specs.Machine.{TakesTurn, machine_after, numbers_begun}
@@ -89,9 +91,11 @@ pub record BeginsNext (before : History) (actor : Actor) (after : History) : Typ
   pub given : slice_get before.commands number ≡ Some command
   pub left : after ≡ record before { entries = before.entries ++ Began number actor command ∷ [] }
 
--- what a call adds to the journal: nothing, that it was synced, or a change by the running command
+-- what a call adds to the journal: nothing, that it was synced, a change by the running command, or that a key was
+-- installed
 abbrev pub IsNoted : ℕ → List Entry → Type 0
-IsNoted number more = (more ≡ []) ⊎ (more ≡ Synced ∷ []) ⊎ ((change : Change) × (more ≡ Changed number change ∷ []))
+IsNoted number more = (more ≡ []) ⊎ ((more ≡ Synced ∷ []) ⊎ (((change : Change) × (more ≡ Changed number change ∷ []))
+    ⊎ ((user : ℕ) × (class : Class) × (more ≡ Installed user class ∷ []))))
 
 -- the command that the actor runs makes one call of a device
 pub record CallsOnce (before : History) (actor : Actor) (after : History) : Type 0 where

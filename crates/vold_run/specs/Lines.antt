@@ -69,13 +69,13 @@ IsInOrder actor (number ∷ numbers) =
     ((other : ℕ) → Contains numbers other → ComesBy actor number other) × IsInOrder actor numbers
 
 -- a Book between the lines of a script
-pub record IsBetweenLines {D E : Type 0} (senses : Senses D E) (book : BookState (BenchState D E)) : Type 0 where
+pub record IsBetweenLines {D E F : Type 0} (senses : Senses D E F) (book : BookState (BenchState D E F)) : Type 0 where
   pub whole : IsWhole senses book
   pub level : book.tracker.level ≡ 1
   pub order : (actor : Actor) → IfSome (map.get book.docket.waiting actor) (IsInOrder actor)
 
 -- what turns leave of a Book: they give no command, and neither stop the machine nor start it again
-pub record IsKept {D E : Type 0} (senses : Senses D E) (before after : BookState (BenchState D E)) : Type 0 where
+pub record IsKept {D E F : Type 0} (senses : Senses D E F) (before after : BookState (BenchState D E F)) : Type 0 where
   pub commands : after.docket.commands ≡ before.docket.commands
   pub orders : after.ledger.orders ≡ before.ledger.orders
   pub seed : after.seed ≡ before.seed
@@ -93,8 +93,8 @@ IsReadyFor (Stop cut) phase = phase ≢ Halted
 IsReadyFor (Restart level) phase = phase ≡ Halted
 
 -- a line is done
-pub record IsLineDone {D E : Type 0} (senses : Senses D E) (line : Line)
-    (before after : BookState (BenchState D E)) : Type 0 where
+pub record IsLineDone {D E F : Type 0} (senses : Senses D E F) (line : Line)
+    (before after : BookState (BenchState D E F)) : Type 0 where
   pub commands : after.docket.commands ≡ before.docket.commands ++ command_of line
   pub orders : after.ledger.orders ≡ before.ledger.orders ++ order_of line
   pub seed : after.seed ≡ before.seed
@@ -105,8 +105,8 @@ pub record IsLineDone {D E : Type 0} (senses : Senses D E) (line : Line)
   pub between : IsBetweenLines senses after
 
 -- lines are done, where `prior` is the line before them
-pub record AreLinesDone {D E : Type 0} (senses : Senses D E) (prior : Option Line) (lines : List Line)
-    (before after : BookState (BenchState D E)) : Type 0 where
+pub record AreLinesDone {D E F : Type 0} (senses : Senses D E F) (prior : Option Line) (lines : List Line)
+    (before after : BookState (BenchState D E F)) : Type 0 where
   pub commands : after.docket.commands ≡ before.docket.commands ++ commands_of lines
   pub orders : after.ledger.orders ≡ before.ledger.orders ++ orders_of lines
   pub seed : after.seed ≡ before.seed

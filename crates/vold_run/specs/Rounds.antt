@@ -13,8 +13,8 @@ abbrev pub NothingLeft : {B : Type 0} → BookState B → Type 0
 NothingLeft book = (actor : Actor) → IsBusy book.docket actor → ¬ (TakesTurn book.tracker.phase actor)
 
 -- how a round ends: it was made, and fewer turns are left; or the machine took no turn, and nothing changed
-abbrev pub RoundEnds : {D E : Type 0} → Senses D E → BookState (BenchState D E) → BookState (BenchState D E) → Bool
-    → Type 0
+abbrev pub RoundEnds : {D E F : Type 0} → Senses D E F → BookState (BenchState D E F) → BookState (BenchState D E F)
+    → Bool → Type 0
 RoundEnds senses before after true =
     RoundFits (history_of before) (history_of after)
     × (turns_left (seen senses after) < turns_left (seen senses before))

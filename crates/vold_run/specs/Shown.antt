@@ -5,10 +5,12 @@ use Rattle.tree_model.specs.declared.device.DevFault.TheVariants.{Failed}
 use Rattle.tree_model.specs.Tree.{Tree}
 use Rattle.tree_model.specs.Disk.{view}
 use Rattle.tree_model.specs.Counted.{Counts, IsCounted}
+use Rattle.key_ring.specs.Ring.{Ring}
 use Rattle.keystore_model.specs.Store.{Store}
 use Rattle.script_text.specs.Words.{line_of}
 use Rattle.script_text.specs.Journal.{journal_text}
 use Rattle.script_text.specs.Keystore.{store_section}
+use Rattle.script_text.specs.Ring.{ring_text}
 use Rattle.script_text.specs.Tree.{tree_section}
 use Rattle.bench.specs.Bench.{Plain as Seen}
 use Rattle.vold_book.specs.State.{Plain}
@@ -21,7 +23,7 @@ tree_text tree = tree_section (codes "tree") (map.entries tree) None
 abbrev pub unread_tree : List ℕ
 unread_tree = line_of (codes "unread" ∷ codes "tree" ∷ [])
 
--- and in place of a keystore that could not be read
+-- and in place of a keystore that could not be read, and of the ring behind it
 abbrev pub unread_store : List ℕ
 unread_store = line_of (codes "unread" ∷ codes "store" ∷ [])
 
@@ -53,25 +55,30 @@ pub record FailsToRead (tree : Tree) (before after : Counts) : Type 0 where
   pub looks : AreAnswered answered before reached
   pub failed : IsFailed reached after
 
--- one look reads the keystore: the keystore, or where the device failed the line in its place
-abbrev pub ShowsStore : Store → Counts → Counts → List ℕ → Type 0
-ShowsStore store before after text =
-    ((text ≡ store_section store) × IsAnswered before after) ⊎ ((text ≡ unread_store) × IsFailed before after)
+-- one look reads the keystore: the keystore and then the keys in the ring, or where the device failed the line in
+-- their place
+abbrev pub ShowsStore : Store → Ring → Counts → Counts → List ℕ → Type 0
+ShowsStore store ring before after text =
+    ((text ≡ store_section store ++ ring_text ring) × IsAnswered before after)
+    ⊎ ((text ≡ unread_store) × IsFailed before after)
 
--- the tree was read, and the keystore after it
+-- the tree was read, and the keystore after it, and then the ring, whose looks aren't counted
 pub record ReadsOn (before after : Seen) (text : List ℕ) : Type 0 where
   pub store_text : List ℕ
   pub is : text ≡ tree_text (view after.disk) ++ store_text
   pub tree : ReadsTree (view before.disk) before.tree_counts after.tree_counts
-  pub store : ShowsStore after.store before.store_counts after.store_counts store_text
+  pub store : ShowsStore after.store after.keys before.store_counts after.store_counts store_text
+  pub ring : after.ring_counts ≡ before.ring_counts
 
--- the tree was not read, and the keystore was not looked at
+-- the tree was not read, and the keystore and the ring were not looked at
 pub record ReadsNoFurther (before after : Seen) (text : List ℕ) : Type 0 where
   pub is : text ≡ unread_tree
   pub tree : FailsToRead (view before.disk) before.tree_counts after.tree_counts
   pub store : after.store_counts ≡ before.store_counts
+  pub ring : after.ring_counts ≡ before.ring_counts
 
--- the tree and then the keystore; where one was not read, a line in its place, and nothing behind it
+-- the tree, then the keystore, and then the ring; where the tree or the keystore was not read, a line in its place,
+-- and nothing behind it
 abbrev pub ShowsDevices : Seen → Seen → List ℕ → Type 0
 ShowsDevices before after text = ReadsOn before after text ⊎ ReadsNoFurther before after text
 

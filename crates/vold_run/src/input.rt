@@ -1,4 +1,4 @@
-ghost use Rattle.std.specs.Prelude.{◌≡◌, ◌↔◌, ◌+◌, IsTrue, IfOk, IfErr, IsErrOf, map, length, codes};
+ghost use Rattle.std.specs.Prelude.{◌≡◌, ◌↔◌, ◌+◌, IsTrue, IfOk, IfErr, IsErrOf, map, codes};
 ghost use Rattle.std.specs.String.{string_bytes};
 ghost use Rattle.vold_io.specs.Transfers.{LosesAtMost};
 ghost use Rattle.vold_run.specs.Input.{most_bytes, IsAccepted, IsCause, ScriptCame, IsReading};

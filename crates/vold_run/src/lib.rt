@@ -1,5 +1,5 @@
-//! A run: a script's lines are done on a Book, and its journal and tree are written; and what the program makes of its
-//! words and of a run's end.
+//! A run: a script's lines are done on a Book, and its journal and its devices are written; and what the program makes
+//! of its words and of a run's end.
 #![tactic(auto)]
 
 mod input;

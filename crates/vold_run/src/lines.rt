@@ -7,6 +7,7 @@ ghost use Rattle.vold_run.specs.Lines.{AreLinesDone, IsLineDone, IsBetweenLines,
 
 use crate::rounds;
 use journal_model::EnqueueFault;
+use key_ring::KeyRing;
 use keystore_model::Keystore;
 use script_text::Line;
 use std::alloc::Global;
@@ -14,19 +15,19 @@ use tree_model::{NoMemory, TreeDisk};
 use vold_book::Book;
 
 /// Does the lines of a script on a Book, in order.
-pub fn do_lines<T: TreeDisk, B: Keystore>(
+pub fn do_lines<T: TreeDisk, B: Keystore, G: KeyRing>(
     alloc: Global,
-    book: &mut Book<T, B>,
+    book: &mut Book<T, B, G>,
     lines: &[Line],
 ) -> Result<(), NoMemory>
-    requires between { IsBetweenLines (senses T.disk T.counts B.store B.counts) book.old }
+    requires between { IsBetweenLines (senses T.disk T.counts B.store B.counts G.ring G.counts) book.old }
     requires still { StandsStill None book.old.tracker.phase }
     requires few { length book.old.docket.commands + length lines.now ≤ most_lines }
     requires lines { AllByRecursion IsLine lines.now }
     requires order { AreInOrder None lines.now }
     ensures done { OnOk result
-        (AreLinesDone (senses T.disk T.counts B.store B.counts) None lines.now book.old book.new) }
-    ensures whole { IsWhole (senses T.disk T.counts B.store B.counts) book.new }
+        (AreLinesDone (senses T.disk T.counts B.store B.counts G.ring G.counts) None lines.now book.old book.new) }
+    ensures whole { IsWhole (senses T.disk T.counts B.store B.counts G.ring G.counts) book.new }
 {
     for line in lines {
         do_line(alloc, book, line)?;
@@ -35,17 +36,18 @@ pub fn do_lines<T: TreeDisk, B: Keystore>(
 }
 
 /// Does one line.
-fn do_line<T: TreeDisk, B: Keystore>(
+fn do_line<T: TreeDisk, B: Keystore, G: KeyRing>(
     alloc: Global,
-    book: &mut Book<T, B>,
+    book: &mut Book<T, B, G>,
     line: &Line,
 ) -> Result<(), NoMemory>
-    requires between { IsBetweenLines (senses T.disk T.counts B.store B.counts) book.old }
+    requires between { IsBetweenLines (senses T.disk T.counts B.store B.counts G.ring G.counts) book.old }
     requires ready { IsReadyFor line.now book.old.tracker.phase }
     requires few { length book.old.docket.commands + 1 ≤ most_lines }
     requires line { IsLine line.now }
-    ensures done { OnOk result (IsLineDone (senses T.disk T.counts B.store B.counts) line.now book.old book.new) }
-    ensures whole { IsWhole (senses T.disk T.counts B.store B.counts) book.new }
+    ensures done { OnOk result
+        (IsLineDone (senses T.disk T.counts B.store B.counts G.ring G.counts) line.now book.old book.new) }
+    ensures whole { IsWhole (senses T.disk T.counts B.store B.counts G.ring G.counts) book.new }
 {
     match line {
         Line::Seed(_) => Ok(()),

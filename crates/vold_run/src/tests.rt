@@ -1,5 +1,6 @@
 use crate::run;
 use journal_model::{Actor, Command, Entry, Reply};
+use key_ring::MemRing;
 use keystore_memory::MemKeystore;
 use std::alloc::Global;
 use std::test::Fail;
@@ -62,15 +63,25 @@ fn a_further_recovery_makes_up_for_a_sync(rt: HostRuntime) -> Result<(), Fail> {
 }
 
 /// The Book of a create that was stopped behind its first rename, once the sync of the recovery behind it failed.
-fn failed_recovery(alloc: Global) -> Result<Option<Book<MemTree, MemKeystore>>, NoMemory> {
+fn failed_recovery(alloc: Global) -> Result<Option<Book<MemTree, MemKeystore, MemRing>>, NoMemory> {
     let script = b"create 10\nturn 10 11\nstop 1\nrestart 1\nall\n";
     let mut tree = MemTree::new(alloc)?;
     tree.plan_fault(10)?;
     let store = MemKeystore::new(alloc)?;
+    let ring = MemRing::new(alloc)?;
     let mut source = MemSource::new(Bytes::copy(alloc, script)?, None);
     let mut sink = MemSink::new(alloc, None);
     let words = words_of(alloc, "run")?;
-    Ok(run(alloc, words.as_slice(), &mut source, &mut sink, tree, store).book)
+    let end = run(
+        alloc,
+        words.as_slice(),
+        &mut source,
+        &mut sink,
+        tree,
+        store,
+        ring,
+    );
+    Ok(end.book)
 }
 
 /// The text in place of the output.
@@ -91,9 +102,18 @@ fn ran(
     let words = words_of(alloc, words)?;
     let tree = MemTree::new(alloc)?;
     let store = MemKeystore::new(alloc)?;
+    let ring = MemRing::new(alloc)?;
     let mut source = MemSource::new(Bytes::copy(alloc, b"create 10\nall\n")?, failing_read);
     let mut sink = MemSink::new(alloc, failing_write);
-    let end = run(alloc, words.as_slice(), &mut source, &mut sink, tree, store);
+    let end = run(
+        alloc,
+        words.as_slice(),
+        &mut source,
+        &mut sink,
+        tree,
+        store,
+        ring,
+    );
     Ok(Written {
         sink,
         status: end.status.number(),

@@ -1,5 +1,5 @@
 use Rattle.user_tasks.proofs.Refuted.{replies-before-sync, leaves-out-device, hides-change, hides-blob}
-use Rattle.user_tasks.proofs.Refuted.{touches-other}
+use Rattle.user_tasks.proofs.Refuted.{touches-other, replies-before-keys, installs-other}
 use Rattle.user_tasks.proofs.wrong_plans.law_of_wrong_plans.Goals as goal
 
 pub returns : goal.returns
@@ -9,4 +9,6 @@ returns c = record {
   hidden = hides-change;
   unnamed = hides-blob;
   other = touches-other;
+  uninstalled = replies-before-keys;
+  other_key = installs-other;
 }

@@ -9,7 +9,9 @@ use Rattle.vold_run.proofs.lines.do_line.Goals as goal
 
 pub returns-in-Seed-clause-done : goal.returns-in-Seed-clause-done
 returns-in-Seed-clause-done g c =
-    let seeing = senses g.T.TreeDisk.disk g.T.TreeDisk.counts g.B.Keystore.store g.B.Keystore.counts in
+    let seeing =
+    senses g.T.TreeDisk.disk g.T.TreeDisk.counts g.B.Keystore.store g.B.Keystore.counts g.G.KeyRing.ring
+    g.G.KeyRing.counts in
     let before = c.args.book.now in
     subst (λ line. IsLineDone seeing line before before) (sym c.in-Seed.is)
     (seed-done seeing before before c.requires.between c.in-Seed.field-0
@@ -17,7 +19,9 @@ returns-in-Seed-clause-done g c =
 
 pub returns-in_ok-duplicate-in-Stop-clause-done : goal.returns-in_ok-duplicate-in-Stop-clause-done
 returns-in_ok-duplicate-in-Stop-clause-done g c =
-    let seeing = senses g.T.TreeDisk.disk g.T.TreeDisk.counts g.B.Keystore.store g.B.Keystore.counts in
+    let seeing =
+    senses g.T.TreeDisk.disk g.T.TreeDisk.counts g.B.Keystore.store g.B.Keystore.counts g.G.KeyRing.ring
+    g.G.KeyRing.counts in
     let before = c.args.book.now in
     let after = c.stop.new.self in
     let is = c.in-Stop.is ∙ ap (λ cut. Stop cut) (sym c.in_ok-duplicate-in-Stop.ensures) in
@@ -27,7 +31,9 @@ returns-in_ok-duplicate-in-Stop-clause-done g c =
 
 pub returns-in_ok-duplicate-in-Do-clause-done : goal.returns-in_ok-duplicate-in-Do-clause-done
 returns-in_ok-duplicate-in-Do-clause-done g c =
-    let seeing = senses g.T.TreeDisk.disk g.T.TreeDisk.counts g.B.Keystore.store g.B.Keystore.counts in
+    let seeing =
+    senses g.T.TreeDisk.disk g.T.TreeDisk.counts g.B.Keystore.store g.B.Keystore.counts g.G.KeyRing.ring
+    g.G.KeyRing.counts in
     let before = c.args.book.now in
     let after = c.enqueue.new.self in
     let is = c.in-Do.is ∙ ap (λ command. Do command) (sym c.in_ok-duplicate-in-Do.ensures) in
@@ -39,7 +45,9 @@ returns-in_ok-duplicate-in-Do-clause-done g c =
 
 pub returns-in-Restart-clause-done : goal.returns-in-Restart-clause-done
 returns-in-Restart-clause-done g c =
-    let seeing = senses g.T.TreeDisk.disk g.T.TreeDisk.counts g.B.Keystore.store g.B.Keystore.counts in
+    let seeing =
+    senses g.T.TreeDisk.disk g.T.TreeDisk.counts g.B.Keystore.store g.B.Keystore.counts g.G.KeyRing.ring
+    g.G.KeyRing.counts in
     let before = c.args.book.now in
     let after = c.restart.new.self in
     subst (λ line. OnOk c.numbered-in-Restart.result

@@ -15,7 +15,9 @@ do_line-requires-clause-ready g c =
 
 pub loop-line-init : goal.loop-line-init
 loop-line-init g c =
-    let seeing = senses g.T.TreeDisk.disk g.T.TreeDisk.counts g.B.Keystore.store g.B.Keystore.counts in
+    let seeing =
+    senses g.T.TreeDisk.disk g.T.TreeDisk.counts g.B.Keystore.store g.B.Keystore.counts g.G.KeyRing.ring
+    g.G.KeyRing.counts in
     record {
       done = no-lines seeing None c.args.book.now c.requires.still c.requires.between;
       few = omega arith;
@@ -23,7 +25,9 @@ loop-line-init g c =
 
 pub loop-line-preserved : goal.loop-line-preserved
 loop-line-preserved g c =
-    let seeing = senses g.T.TreeDisk.disk g.T.TreeDisk.counts g.B.Keystore.store g.B.Keystore.counts in
+    let seeing =
+    senses g.T.TreeDisk.disk g.T.TreeDisk.counts g.B.Keystore.store g.B.Keystore.counts g.G.KeyRing.ring
+    g.G.KeyRing.counts in
     let lines = c.args.lines.now in
     let before = c.loop-line.book in
     let after = c.do_line.new.book in

@@ -9,7 +9,9 @@ use Rattle.vold_run.proofs.output.devices_text.Goals as goal
 
 pub returns-in_ok-store-in-Ok-clause-shown : goal.returns-in_ok-store-in-Ok-clause-shown
 returns-in_ok-store-in-Ok-clause-shown g c =
-    let seeing = senses g.T.TreeDisk.disk g.T.TreeDisk.counts g.B.Keystore.store g.B.Keystore.counts in
+    let seeing =
+    senses g.T.TreeDisk.disk g.T.TreeDisk.counts g.B.Keystore.store g.B.Keystore.counts g.G.KeyRing.ring
+    g.G.KeyRing.counts in
     let before = c.args.book.now in
     let between = c.read_dirs.new.book in
     let after = c.store_text.new.book in
@@ -18,7 +20,15 @@ returns-in_ok-store-in-Ok-clause-shown g c =
     IfOk-weaker c.joined.result _ _ (λ text is.
     reads-on seeing before after
     (looked-joined seeing before between after c.read_dirs.ensures.looked c.store_text.ensures.looked) between
-    c.read_dirs.ensures.store c.store_text.ensures.tree c.in-Ok.ensures.answered text c.in_ok-store-in-Ok.store
-    c.in_ok-store-in-Ok.ensures.shown
+    (record {
+      reads = c.in-Ok.ensures.answered;
+      store = c.read_dirs.ensures.store;
+      ring = c.read_dirs.ensures.ring;
+    }) text c.in_ok-store-in-Ok.store
+    (record {
+      shows = c.in_ok-store-in-Ok.ensures.shown;
+      tree = c.store_text.ensures.tree;
+      ring = c.store_text.ensures.ring;
+    })
     (is ∙ ap (λ first. first ++ c.as_slice-in-Ok-2.result.now) tree
     ∙ ap (λ second. tree_text (view (g.T.TreeDisk.disk before.bench.tree)) ++ second) store)) c.joined.ensures

@@ -12,7 +12,9 @@ use Rattle.vold_run.proofs.output.read_dirs.Goals as goal
 
 pub read_place-requires : goal.read_place-requires
 read_place-requires g c =
-    let seeing = senses g.T.TreeDisk.disk g.T.TreeDisk.counts g.B.Keystore.store g.B.Keystore.counts in
+    let seeing =
+    senses g.T.TreeDisk.disk g.T.TreeDisk.counts g.B.Keystore.store g.B.Keystore.counts g.G.KeyRing.ring
+    g.G.KeyRing.counts in
     let same = disk-looked seeing c.args.book.now c.loop-place.book c.loop-place.invariant.looked in
     let tree = view (g.T.TreeDisk.disk c.args.book.now.bench.tree) in
     let places = c.as_slice-place-items.result.now in
@@ -23,7 +25,9 @@ read_place-requires g c =
 
 pub loop-place-preserved : goal.loop-place-preserved
 loop-place-preserved g c =
-    let seeing = senses g.T.TreeDisk.disk g.T.TreeDisk.counts g.B.Keystore.store g.B.Keystore.counts in
+    let seeing =
+    senses g.T.TreeDisk.disk g.T.TreeDisk.counts g.B.Keystore.store g.B.Keystore.counts g.G.KeyRing.ring
+    g.G.KeyRing.counts in
     let same = disk-looked seeing c.args.book.now c.loop-place.book c.loop-place.invariant.looked in
     let tree = view (g.T.TreeDisk.disk c.args.book.now.bench.tree) in
     let places = c.as_slice-place-items.result.now in
@@ -37,6 +41,7 @@ loop-place-preserved g c =
           looked-joined seeing c.args.book.now c.loop-place.book c.read_place.new.self c.loop-place.invariant.looked
           c.read_place.ensures.same;
       store = c.read_place.ensures.store ∙ c.loop-place.invariant.store;
+      ring = c.read_place.ensures.ring ∙ c.loop-place.invariant.ring;
       looks =
           subst (λ count. AreAnswered (suc count) (g.T.TreeDisk.counts c.args.book.now.bench.tree)
           (g.T.TreeDisk.counts c.read_place.new.self.bench.tree)) (sym (add-one c.loop-place.place-index)) (

@@ -7,7 +7,9 @@ use Rattle.vold_run.proofs.output.show.Goals as goal
 
 pub returns-clause-shown : goal.returns-clause-shown
 returns-clause-shown g c =
-    let seeing = senses g.T.TreeDisk.disk g.T.TreeDisk.counts g.B.Keystore.store g.B.Keystore.counts in
+    let seeing =
+    senses g.T.TreeDisk.disk g.T.TreeDisk.counts g.B.Keystore.store g.B.Keystore.counts g.G.KeyRing.ring
+    g.G.KeyRing.counts in
     let before = c.args.book.now in
     let journal : c.as_slice-2.result.now ≡ journal_text before.ledger.entries = search rules in
     let devices : c.as_slice-3.result.now ≡ c.in_ok-devices.devices = search rules in

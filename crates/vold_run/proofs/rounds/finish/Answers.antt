@@ -10,7 +10,9 @@ use Rattle.vold_run.proofs.rounds.finish.Goals as goal
 
 pub returns-then-not-branch-clause-fits : goal.returns-then-not-branch-clause-fits
 returns-then-not-branch-clause-fits g c =
-    let seeing = senses g.T.TreeDisk.disk g.T.TreeDisk.counts g.B.Keystore.store g.B.Keystore.counts in
+    let seeing =
+    senses g.T.TreeDisk.disk g.T.TreeDisk.counts g.B.Keystore.store g.B.Keystore.counts g.G.KeyRing.ring
+    g.G.KeyRing.counts in
     let rounds = c.loop-first.invariant.rounds in
     let ended = subst (RoundEnds seeing c.loop-first.book c.round.new.book) c.if-not-branch.true
     c.in_ok-round.ensures.ended in
@@ -20,12 +22,16 @@ returns-then-not-branch-clause-fits g c =
 
 pub loop-first-init : goal.loop-first-init
 loop-first-init g c =
-    let seeing = senses g.T.TreeDisk.disk g.T.TreeDisk.counts g.B.Keystore.store g.B.Keystore.counts in
+    let seeing =
+    senses g.T.TreeDisk.disk g.T.TreeDisk.counts g.B.Keystore.store g.B.Keystore.counts g.G.KeyRing.ring
+    g.G.KeyRing.counts in
     record { rounds = (0, refl); kept = kept-same seeing c.args.book.now c.requires }
 
 pub loop-first-preserved : goal.loop-first-preserved
 loop-first-preserved g c =
-    let seeing = senses g.T.TreeDisk.disk g.T.TreeDisk.counts g.B.Keystore.store g.B.Keystore.counts in
+    let seeing =
+    senses g.T.TreeDisk.disk g.T.TreeDisk.counts g.B.Keystore.store g.B.Keystore.counts g.G.KeyRing.ring
+    g.G.KeyRing.counts in
     let rounds = c.loop-first.invariant.rounds in
     let ended = subst (RoundEnds seeing c.loop-first.book c.round.new.book) c.if-not-branch.false
     c.in_ok-round.ensures.ended in
@@ -42,7 +48,9 @@ loop-first-preserved g c =
 
 pub returns-clause-fits : goal.returns-clause-fits
 returns-clause-fits g c =
-    let seeing = senses g.T.TreeDisk.disk g.T.TreeDisk.counts g.B.Keystore.store g.B.Keystore.counts in
+    let seeing =
+    senses g.T.TreeDisk.disk g.T.TreeDisk.counts g.B.Keystore.store g.B.Keystore.counts g.G.KeyRing.ring
+    g.G.KeyRing.counts in
     let rounds = c.loop-first.invariant.rounds in
     let none = subst (IsNextBusy c.loop-first.book.docket None) c.in_default.is c.first_busy.ensures.busy in
     all-ends seeing (history_of c.args.book.now) c.loop-first.book rounds.0 rounds.1

@@ -10,7 +10,9 @@ use Rattle.vold_run.proofs.rounds.round.Goals as goal
 
 pub returns-in_default : goal.returns-in_default
 returns-in_default g c =
-    let seeing = senses g.T.TreeDisk.disk g.T.TreeDisk.counts g.B.Keystore.store g.B.Keystore.counts in
+    let seeing =
+    senses g.T.TreeDisk.disk g.T.TreeDisk.counts g.B.Keystore.store g.B.Keystore.counts g.G.KeyRing.ring
+    g.G.KeyRing.counts in
     let before = c.args.book.now in
     let after = c.advance.new.self in
     let turn = c.in_ok-advance.field-0 in
@@ -27,7 +29,9 @@ returns-in_default g c =
 
 pub loop-next-init : goal.loop-next-init
 loop-next-init g c =
-    let seeing = senses g.T.TreeDisk.disk g.T.TreeDisk.counts g.B.Keystore.store g.B.Keystore.counts in
+    let seeing =
+    senses g.T.TreeDisk.disk g.T.TreeDisk.counts g.B.Keystore.store g.B.Keystore.counts g.G.KeyRing.ring
+    g.G.KeyRing.counts in
     let before = c.args.book.now in
     let after = c.advance.new.self in
     let turn = c.in_ok-advance.field-0 in
@@ -45,7 +49,9 @@ loop-next-init g c =
 
 pub returns-in_default-2 : goal.returns-in_default-2
 returns-in_default-2 g c =
-    let seeing = senses g.T.TreeDisk.disk g.T.TreeDisk.counts g.B.Keystore.store g.B.Keystore.counts in
+    let seeing =
+    senses g.T.TreeDisk.disk g.T.TreeDisk.counts g.B.Keystore.store g.B.Keystore.counts g.G.KeyRing.ring
+    g.G.KeyRing.counts in
     let start = c.args.book.now in
     let before = c.loop-next.book in
     let after = c.advance-in-Some.new.self in
@@ -71,7 +77,9 @@ returns-in_default-2 g c =
 
 pub loop-next-preserved : goal.loop-next-preserved
 loop-next-preserved g c =
-    let seeing = senses g.T.TreeDisk.disk g.T.TreeDisk.counts g.B.Keystore.store g.B.Keystore.counts in
+    let seeing =
+    senses g.T.TreeDisk.disk g.T.TreeDisk.counts g.B.Keystore.store g.B.Keystore.counts g.G.KeyRing.ring
+    g.G.KeyRing.counts in
     let start = c.args.book.now in
     let before = c.loop-next.book in
     let after = c.advance-in-Some.new.self in
@@ -96,7 +104,9 @@ loop-next-preserved g c =
 
 pub returns-clause-ended : goal.returns-clause-ended
 returns-clause-ended g c =
-    let seeing = senses g.T.TreeDisk.disk g.T.TreeDisk.counts g.B.Keystore.store g.B.Keystore.counts in
+    let seeing =
+    senses g.T.TreeDisk.disk g.T.TreeDisk.counts g.B.Keystore.store g.B.Keystore.counts g.G.KeyRing.ring
+    g.G.KeyRing.counts in
     let going = subst
     (RoundGoes (history_of c.args.book.now) c.loop-next.book) c.in_default-next.is c.loop-next.invariant.goes in (
       round-ends seeing (history_of c.args.book.now) c.loop-next.book going

@@ -8,7 +8,9 @@ use Rattle.vold_run.proofs.rounds.round.Given as goal
 
 abbrev pub invariant-loop-next : goal.invariant-loop-next
 invariant-loop-next g l =
-    let seeing = senses g.T.TreeDisk.disk g.T.TreeDisk.counts g.B.Keystore.store g.B.Keystore.counts in
+    let seeing =
+    senses g.T.TreeDisk.disk g.T.TreeDisk.counts g.B.Keystore.store g.B.Keystore.counts g.G.KeyRing.ring
+    g.G.KeyRing.counts in
     record {
       falls : turns_left (seen seeing l.book) < turns_left (seen seeing l.fn.book);
       kept : IsKept seeing l.fn.book l.book;
@@ -17,5 +19,5 @@ invariant-loop-next g l =
 
 abbrev pub decreases-loop-next : goal.decreases-loop-next
 decreases-loop-next g l =
-    turns_left
-    (seen (senses g.T.TreeDisk.disk g.T.TreeDisk.counts g.B.Keystore.store g.B.Keystore.counts) l.book)
+    turns_left (seen (senses g.T.TreeDisk.disk g.T.TreeDisk.counts g.B.Keystore.store g.B.Keystore.counts
+    g.G.KeyRing.ring g.G.KeyRing.counts) l.book)

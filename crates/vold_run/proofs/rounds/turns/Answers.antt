@@ -7,12 +7,16 @@ use Rattle.vold_run.proofs.rounds.turns.Goals as goal
 
 pub loop-init : goal.loop-init
 loop-init g c =
-    let seeing = senses g.T.TreeDisk.disk g.T.TreeDisk.counts g.B.Keystore.store g.B.Keystore.counts in
+    let seeing =
+    senses g.T.TreeDisk.disk g.T.TreeDisk.counts g.B.Keystore.store g.B.Keystore.counts g.G.KeyRing.ring
+    g.G.KeyRing.counts in
     record { within = omega arith; turns = refl; kept = kept-same seeing c.args.book.now c.requires }
 
 pub loop-preserved : goal.loop-preserved
 loop-preserved g c =
-    let seeing = senses g.T.TreeDisk.disk g.T.TreeDisk.counts g.B.Keystore.store g.B.Keystore.counts in
+    let seeing =
+    senses g.T.TreeDisk.disk g.T.TreeDisk.counts g.B.Keystore.store g.B.Keystore.counts g.G.KeyRing.ring
+    g.G.KeyRing.counts in
     let before = c.loop.book in
     let after = c.advance.new.self in
     let answers = c.in_ok-advance.ensures.turn in

@@ -8,6 +8,6 @@ abbrev pub invariant-loop : goal.invariant-loop
 invariant-loop g l = record {
   within : l.counter ≤ l.fn.count;
   turns : TurnsOf l.fn.actor l.counter (history_of l.fn.book) (history_of l.book);
-  kept : IsKept (senses g.T.TreeDisk.disk g.T.TreeDisk.counts g.B.Keystore.store g.B.Keystore.counts) l.fn.book
-      l.book;
+  kept : IsKept (senses g.T.TreeDisk.disk g.T.TreeDisk.counts g.B.Keystore.store g.B.Keystore.counts
+      g.G.KeyRing.ring g.G.KeyRing.counts) l.fn.book l.book;
 }

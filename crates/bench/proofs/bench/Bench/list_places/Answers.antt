@@ -14,7 +14,8 @@ list_anew-requires g c = record {
 
 pub returns-in-Ok : goal.returns-in-Ok
 returns-in-Ok g c =
-    let after = seen (senses_by g.T.TreeDisk.disk g.T.TreeDisk.counts g.K.Keystore.store g.K.Keystore.counts)
+    let after = seen (senses_by g.T.TreeDisk.disk g.T.TreeDisk.counts g.K.Keystore.store
+    g.K.Keystore.counts g.G.KeyRing.ring g.G.KeyRing.counts)
     (state_of (record c.args.self.now { tree = c.list.new.self; table = c.list_anew.new.table })) in
     record {
       made = (

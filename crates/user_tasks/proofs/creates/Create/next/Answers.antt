@@ -5,8 +5,8 @@ use Rattle.task_turns.specs.declared.next.Next.TheVariants.{Reply}
 use Rattle.task_turns.specs.Turns.{Asks}
 use Rattle.user_tasks.specs.Tasks.{UserTurns, UserJobs, tasks}
 use Rattle.user_tasks.proofs.AskedJobs.{clearing-asks, ce-asks, de-asks}
-use Rattle.user_tasks.proofs.CreateTurns.{clear-turn, begin-turn, ce-turn, de-turn, sync-turn, reply-turn}
-use Rattle.user_tasks.proofs.CreateTurns.{turns-given}
+use Rattle.user_tasks.proofs.CreateTurns.{clear-turn, begin-turn, ce-turn, de-turn, turns-given}
+use Rattle.user_tasks.proofs.Installing.{sync-turn, de-installed, ce-installed, reply-turn}
 use Rattle.user_tasks.proofs.JobNumbers.{call-jobs, begin-jobs, ce-jobs, de-jobs}
 use Rattle.user_tasks.proofs.creates.Create.next.Goals as goal
 
@@ -70,6 +70,26 @@ returns-in-Created c =
           (sync-turn _ c.self.invariant way next c.in-Created.is c.quiet-in-Created.ensures);
       asks = subst (Asks tasks c.args.self.now) (sym c.quiet-in-Created.ensures) tt;
       jobs = call-jobs c.args.self.now way next _ _ c.quiet-in-Created.ensures;
+    }
+
+pub returns-in-InstallingDe : goal.returns-in-InstallingDe
+returns-in-InstallingDe c =
+    let way = c.args.in_the_way in
+    let next = c.install.result in record {
+      turn = subst (λ create. UserTurns create way next) c.self.view_is
+          (de-installed _ c.self.invariant way next c.in-InstallingDe.is c.install.ensures);
+      asks = subst (Asks tasks c.args.self.now) (sym c.install.ensures) tt;
+      jobs = call-jobs c.args.self.now way next _ _ c.install.ensures;
+    }
+
+pub returns-in-InstallingCe : goal.returns-in-InstallingCe
+returns-in-InstallingCe c =
+    let way = c.args.in_the_way in
+    let next = c.install-in-InstallingCe.result in record {
+      turn = subst (λ create. UserTurns create way next) c.self.view_is
+          (ce-installed _ c.self.invariant way next c.in-InstallingCe.is c.install-in-InstallingCe.ensures);
+      asks = subst (Asks tasks c.args.self.now) (sym c.install-in-InstallingCe.ensures) tt;
+      jobs = call-jobs c.args.self.now way next _ _ c.install-in-InstallingCe.ensures;
     }
 
 pub returns-in-Ended : goal.returns-in-Ended

@@ -5,8 +5,9 @@ use Rattle.vold_book.proofs.Went.{goes-once, goes-isolates, goes-falls, goes-up}
 use Rattle.vold_book.proofs.book.Book.advance.Given.{Over}
 use Rattle.vold_book.proofs.book.Book.advance.Goals as goal
 
-abbrev means : (g : Over) → Senses g.row.T.Denot g.row.K.Denot
-means g = senses g.T.TreeDisk.disk g.T.TreeDisk.counts g.K.Keystore.store g.K.Keystore.counts
+abbrev means : (g : Over) → Senses g.row.T.Denot g.row.K.Denot g.row.G.Denot
+means g = senses g.T.TreeDisk.disk g.T.TreeDisk.counts g.K.Keystore.store g.K.Keystore.counts g.G.KeyRing.ring
+    g.G.KeyRing.counts
 
 pub returns-in_ok-begin-in-Begin-clause-falls : goal.returns-in_ok-begin-in-Begin-clause-falls
 returns-in_ok-begin-in-Begin-clause-falls g c =

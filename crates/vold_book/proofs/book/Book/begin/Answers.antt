@@ -13,16 +13,18 @@ use Rattle.vold_book.proofs.Machines.{few-begin}
 use Rattle.vold_book.proofs.book.Book.begin.Given.{Over}
 use Rattle.vold_book.proofs.book.Book.begin.Goals as goal
 
-abbrev means : (g : Over) → Senses g.row.T.Denot g.row.K.Denot
-means g = senses g.T.TreeDisk.disk g.T.TreeDisk.counts g.K.Keystore.store g.K.Keystore.counts
+abbrev means : (g : Over) → Senses g.row.T.Denot g.row.K.Denot g.row.G.Denot
+means g = senses g.T.TreeDisk.disk g.T.TreeDisk.counts g.K.Keystore.store g.K.Keystore.counts g.G.KeyRing.ring
+    g.G.KeyRing.counts
 
 pub begin-requires-clause-few : goal.begin-requires-clause-few
 begin-requires-clause-few g c = few-begin (means g) _ c.self.invariant c.args.actor
 
-abbrev before : (g : Over) (c : goal.After-enter g) → BookState (BenchState g.row.T.Denot g.row.K.Denot)
+abbrev before : (g : Over) (c : goal.After-enter g) → BookState (BenchState g.row.T.Denot g.row.K.Denot g.row.G.Denot)
 before g c = book_of (record {
   tree = c.self.inside.bench.tree;
   store = c.self.inside.bench.store;
+  ring = c.self.inside.bench.ring;
   places = c.self.inside.bench.table.places;
   list = c.self.inside.bench.list;
   opened = c.self.inside.opened;
@@ -33,15 +35,16 @@ before g c = book_of (record {
   tracker = c.self.inside.tracker.now;
 })
 
-abbrev bench : (g : Over) (c : goal.After-enter g) → BenchState g.row.T.Denot g.row.K.Denot
+abbrev bench : (g : Over) (c : goal.After-enter g) → BenchState g.row.T.Denot g.row.K.Denot g.row.G.Denot
 bench g c = record {
   tree = c.begin_on.new.bench.tree;
   store = c.begin_on.new.bench.store;
+  ring = c.begin_on.new.bench.ring;
   places = c.begin_on.new.bench.table.places;
   list = c.begin_on.new.bench.list;
 }
 
-abbrev after : (g : Over) (c : goal.After-enter g) → BookState (BenchState g.row.T.Denot g.row.K.Denot)
+abbrev after : (g : Over) (c : goal.After-enter g) → BookState (BenchState g.row.T.Denot g.row.K.Denot g.row.G.Denot)
 after g c = record (before g c) {
   bench = bench g c;
   boot_seed = c.begin_on.new.bench.seed;
@@ -62,6 +65,7 @@ begun g c =
     (λ i. record {
       tree = c.begin_on.ensures.tree i;
       store = c.begin_on.ensures.store i;
+      ring = c.begin_on.ensures.ring i;
       places = (c.begin_on.ensures.places
           ∙ ap (λ anew. cond anew map.empty c.self.inside.bench.table.places) c.begins_anew-anew.ensures) i;
       list = (c.begin_on.ensures.list

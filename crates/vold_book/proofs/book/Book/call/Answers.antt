@@ -22,11 +22,12 @@ use Rattle.vold_book.proofs.Machines.{changes-fit}
 use Rattle.vold_book.proofs.book.Book.call.Given.{Over}
 use Rattle.vold_book.proofs.book.Book.call.Goals as goal
 
-abbrev means : (g : Over) → Senses g.row.T.Denot g.row.K.Denot
-means g = senses g.T.TreeDisk.disk g.T.TreeDisk.counts g.K.Keystore.store g.K.Keystore.counts
+abbrev means : (g : Over) → Senses g.row.T.Denot g.row.K.Denot g.row.G.Denot
+means g = senses g.T.TreeDisk.disk g.T.TreeDisk.counts g.K.Keystore.store g.K.Keystore.counts g.G.KeyRing.ring
+    g.G.KeyRing.counts
 
-abbrev planned : (g : Over) (inside : BookState (BenchState g.row.T.Denot g.row.K.Denot)) → (actor : Actor)
-    → (done : Option UserTask) → (call : Call) → (change : Option LocalChange) → Type 0
+abbrev planned : (g : Over) (inside : BookState (BenchState g.row.T.Denot g.row.K.Denot g.row.G.Denot))
+    → (actor : Actor) → (done : Option UserTask) → (call : Call) → (change : Option LocalChange) → Type 0
 planned g book actor done call change =
     IsPlanned (seen (means g) book) actor (record { task = done; plan = PlansCall call change })
 
@@ -49,6 +50,7 @@ after-requires g c =
     c.set-it.result c.set-it.ensures.was c.worked-now.result c.worked-now.ensures c.in_ok-made.made (record {
       tree = c.make.new.self.tree;
       store = c.make.new.self.store;
+      ring = c.make.new.self.ring;
       places = c.make.new.self.table.places;
       list = c.make.new.self.list;
     }) c.in_ok-made.ensures.made c.in_ok-made.ensures.answers
@@ -59,10 +61,12 @@ set-requires g c =
     (subst IsSome (sym (get-insert_same actor_total actor_exact
     (docket_of actor_cmp c.self.inside.docket).running c.args.actor c.none.result)) refl)
 
-abbrev before : (g : Over) (c : goal.Joined-call-7 g) → BookState (BenchState g.row.T.Denot g.row.K.Denot)
+abbrev before : (g : Over) (c : goal.Joined-call-7 g)
+    → BookState (BenchState g.row.T.Denot g.row.K.Denot g.row.G.Denot)
 before g c = book_of (record {
   tree = c.self.inside.bench.tree;
   store = c.self.inside.bench.store;
+  ring = c.self.inside.bench.ring;
   places = c.self.inside.bench.table.places;
   list = c.self.inside.bench.list;
   opened = c.self.inside.opened;
@@ -73,15 +77,16 @@ before g c = book_of (record {
   tracker = c.self.inside.tracker.now;
 })
 
-abbrev bench : (g : Over) (c : goal.Joined-call-7 g) → BenchState g.row.T.Denot g.row.K.Denot
+abbrev bench : (g : Over) (c : goal.Joined-call-7 g) → BenchState g.row.T.Denot g.row.K.Denot g.row.G.Denot
 bench g c = record {
   tree = c.make.new.self.tree;
   store = c.make.new.self.store;
+  ring = c.make.new.self.ring;
   places = c.make.new.self.table.places;
   list = c.make.new.self.list;
 }
 
-abbrev after : (g : Over) (c : goal.Joined-call-7 g) → BookState (BenchState g.row.T.Denot g.row.K.Denot)
+abbrev after : (g : Over) (c : goal.Joined-call-7 g) → BookState (BenchState g.row.T.Denot g.row.K.Denot g.row.G.Denot)
 after g c = record (before g c) {
   bench = bench g c;
   boot_seed = c.make.new.self.seed;

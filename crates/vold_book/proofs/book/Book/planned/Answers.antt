@@ -21,7 +21,8 @@ with_no_job-requires g c =
 
 pub returns-in-User-clause-plans : goal.returns-in-User-clause-plans
 returns-in-User-clause-plans g c =
-    let eyes = senses g.T.TreeDisk.disk g.T.TreeDisk.counts g.K.Keystore.store g.K.Keystore.counts in
+    let eyes = senses g.T.TreeDisk.disk g.T.TreeDisk.counts g.K.Keystore.store g.K.Keystore.counts g.G.KeyRing.ring
+    g.G.KeyRing.counts in
     subst (λ book. IfOk c.planned_user.result (IsPlanned (seen eyes book) c.args.actor)) c.self.view_is
     (IfOk-weaker c.planned_user.result _ _ (λ planned plans.
     planned-user _ c.self.invariant c.args.actor c.in-Some.it.now c.in-User.task (sym c.in-Some.ensures) c.in-User.is
@@ -40,7 +41,8 @@ plans-as-is book actor it planned next none is plans = record {
 
 pub returns-in-Recovery-clause-plans : goal.returns-in-Recovery-clause-plans
 returns-in-Recovery-clause-plans g c =
-    let eyes = senses g.T.TreeDisk.disk g.T.TreeDisk.counts g.K.Keystore.store g.K.Keystore.counts in
+    let eyes = senses g.T.TreeDisk.disk g.T.TreeDisk.counts g.K.Keystore.store g.K.Keystore.counts g.G.KeyRing.ring
+    g.G.KeyRing.counts in
     subst (λ book. IsPlanned (seen eyes book) c.args.actor c.with_no_job.result) c.self.view_is
     (plans-as-is _ c.args.actor c.in-Some.it.now c.with_no_job.result c.next-next.result c.with_no_job.ensures.task
     c.with_no_job.ensures.plan

@@ -11,16 +11,18 @@ use Rattle.vold_book.proofs.Books.{replied-book, replies-whole, number-given}
 use Rattle.vold_book.proofs.book.Book.reply.Given.{Over}
 use Rattle.vold_book.proofs.book.Book.reply.Goals as goal
 
-abbrev means : (g : Over) → Senses g.row.T.Denot g.row.K.Denot
-means g = senses g.T.TreeDisk.disk g.T.TreeDisk.counts g.K.Keystore.store g.K.Keystore.counts
+abbrev means : (g : Over) → Senses g.row.T.Denot g.row.K.Denot g.row.G.Denot
+means g = senses g.T.TreeDisk.disk g.T.TreeDisk.counts g.K.Keystore.store g.K.Keystore.counts g.G.KeyRing.ring
+    g.G.KeyRing.counts
 
 pub command-requires : goal.command-requires
 command-requires g c = number-given (means g) _ c.self.invariant c.args.actor c.in-Some.it.now (sym c.in-Some.ensures)
 
-abbrev before : (g : Over) (c : goal.After-enter g) → BookState (BenchState g.row.T.Denot g.row.K.Denot)
+abbrev before : (g : Over) (c : goal.After-enter g) → BookState (BenchState g.row.T.Denot g.row.K.Denot g.row.G.Denot)
 before g c = book_of (record {
   tree = c.self.inside.bench.tree;
   store = c.self.inside.bench.store;
+  ring = c.self.inside.bench.ring;
   places = c.self.inside.bench.table.places;
   list = c.self.inside.bench.list;
   opened = c.self.inside.opened;
@@ -31,10 +33,10 @@ before g c = book_of (record {
   tracker = c.self.inside.tracker.now;
 })
 
-abbrev bench : (g : Over) (c : goal.After-enter g) → BenchState g.row.T.Denot g.row.K.Denot
+abbrev bench : (g : Over) (c : goal.After-enter g) → BenchState g.row.T.Denot g.row.K.Denot g.row.G.Denot
 bench g c = record (before g c).bench { list = c.list_held.new.list }
 
-abbrev after : (g : Over) (c : goal.After-enter g) → BookState (BenchState g.row.T.Denot g.row.K.Denot)
+abbrev after : (g : Over) (c : goal.After-enter g) → BookState (BenchState g.row.T.Denot g.row.K.Denot g.row.G.Denot)
 after g c = record (before g c) {
   bench = bench g c;
   ledger = c.enter.new.self.now;

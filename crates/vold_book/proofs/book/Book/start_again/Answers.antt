@@ -11,13 +11,15 @@ use Rattle.vold_book.proofs.Machines.{restarted-book, restarts-whole}
 use Rattle.vold_book.proofs.book.Book.start_again.Given.{Over}
 use Rattle.vold_book.proofs.book.Book.start_again.Goals as goal
 
-abbrev sense : (g : Over) → Senses g.row.T.Denot g.row.K.Denot
-sense g = senses g.T.TreeDisk.disk g.T.TreeDisk.counts g.K.Keystore.store g.K.Keystore.counts
+abbrev sense : (g : Over) → Senses g.row.T.Denot g.row.K.Denot g.row.G.Denot
+sense g = senses g.T.TreeDisk.disk g.T.TreeDisk.counts g.K.Keystore.store g.K.Keystore.counts g.G.KeyRing.ring
+    g.G.KeyRing.counts
 
-abbrev before : (g : Over) (c : goal.After-enter g) → BookState (BenchState g.row.T.Denot g.row.K.Denot)
+abbrev before : (g : Over) (c : goal.After-enter g) → BookState (BenchState g.row.T.Denot g.row.K.Denot g.row.G.Denot)
 before g c = book_of (record {
   tree = c.self.inside.bench.tree;
   store = c.self.inside.bench.store;
+  ring = c.self.inside.bench.ring;
   places = c.self.inside.bench.table.places;
   list = c.self.inside.bench.list;
   opened = c.self.inside.opened;
@@ -28,10 +30,11 @@ before g c = book_of (record {
   tracker = c.self.inside.tracker.now;
 })
 
-abbrev after : (g : Over) (c : goal.After-enter g) → BookState (BenchState g.row.T.Denot g.row.K.Denot)
+abbrev after : (g : Over) (c : goal.After-enter g) → BookState (BenchState g.row.T.Denot g.row.K.Denot g.row.G.Denot)
 after g c = book_of (record {
   tree = c.restart.new.self;
   store = c.self.inside.bench.store;
+  ring = c.self.inside.bench.ring;
   places = c.self.inside.bench.table.places;
   list = c.self.inside.bench.list;
   opened = c.self.inside.opened;

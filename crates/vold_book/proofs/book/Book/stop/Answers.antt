@@ -7,18 +7,20 @@ use Rattle.vold_book.proofs.Machines.{stopped-book, stops-whole, changes-fit}
 use Rattle.vold_book.proofs.book.Book.stop.Given.{Over}
 use Rattle.vold_book.proofs.book.Book.stop.Goals as goal
 
-abbrev sense : (g : Over) → Senses g.row.T.Denot g.row.K.Denot
-sense g = senses g.T.TreeDisk.disk g.T.TreeDisk.counts g.K.Keystore.store g.K.Keystore.counts
+abbrev sense : (g : Over) → Senses g.row.T.Denot g.row.K.Denot g.row.G.Denot
+sense g = senses g.T.TreeDisk.disk g.T.TreeDisk.counts g.K.Keystore.store g.K.Keystore.counts g.G.KeyRing.ring
+    g.G.KeyRing.counts
 
 pub survivors-kept-requires : goal.survivors-kept-requires
 survivors-kept-requires g c =
     changes-fit (sense g) _ c.self.invariant
     (subst (λ l. length l.entries < 2 ^ 64) c.in_ok-reserve.ensures.same c.in_ok-reserve.ensures.few)
 
-abbrev before : (g : Over) (c : goal.After-order g) → BookState (BenchState g.row.T.Denot g.row.K.Denot)
+abbrev before : (g : Over) (c : goal.After-order g) → BookState (BenchState g.row.T.Denot g.row.K.Denot g.row.G.Denot)
 before g c = book_of (record {
   tree = c.self.inside.bench.tree;
   store = c.self.inside.bench.store;
+  ring = c.self.inside.bench.ring;
   places = c.self.inside.bench.table.places;
   list = c.self.inside.bench.list;
   opened = c.self.inside.opened;
@@ -29,12 +31,13 @@ before g c = book_of (record {
   tracker = c.self.inside.tracker.now;
 })
 
-abbrev after : (g : Over) (c : goal.After-order g) → BookState (BenchState g.row.T.Denot g.row.K.Denot)
+abbrev after : (g : Over) (c : goal.After-order g) → BookState (BenchState g.row.T.Denot g.row.K.Denot g.row.G.Denot)
 after g c = book_of (record {
   tree = c.stop.new.self;
   store = c.self.inside.bench.store;
+  ring = c.clear.new.self;
   places = c.self.inside.bench.table.places;
-  list = c.clear.new.self;
+  list = c.clear-2.new.self;
   opened = c.self.inside.opened;
   seed = c.self.inside.seed;
   boot_seed = c.self.inside.bench.seed;
@@ -51,7 +54,9 @@ stopped g c =
       reserved = c.reserve.new.self.now;
       left = c.stop.ensures.stopped;
       counts = c.stop.ensures.counts;
-      list = c.clear.ensures;
+      keys = c.clear.ensures.cleared;
+      ring_counts = c.clear.ensures.counts;
+      list = c.clear-2.ensures;
       is_kept = c.survivors-kept.ensures;
       is_copied = c.in_ok-duplicate.ensures;
       is_reserved = c.in_ok-reserve.ensures.same;

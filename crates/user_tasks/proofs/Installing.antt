@@ -1,0 +1,140 @@
+-- Once its user is there, each turn of a create shows what it has to: the last sync, the two keys that come into the
+-- ring, and the reply.
+use Rattle.std.proofs.Common.{◌≡◌, ℕ, [], ◌∷◌, refl, sym, ◌∙◌, subst, arith, inr}
+use Rattle.std.specs.Prelude.{Option, Some, None}
+use Rattle.tree_model.specs.declared.places.Class.TheVariants.{De as ForDe, Ce as ForCe}
+use Rattle.tree_model.specs.declared.sites.Site.{Site}
+use Rattle.journal_model.specs.declared.commands.Reply.TheVariants.{Done as DoneReply}
+use Rattle.journal_model.specs.Machine.{Running as Began, AllowsSuccess, Installs}
+use Rattle.user_world.specs.declared.changes.LocalChange.TheVariants.{Born}
+use Rattle.user_world.specs.Facts.{Knows, Logged, Holds}
+use Rattle.user_world.specs.Turns.{IsLogged, AreDurable}
+use Rattle.user_world.proofs.Facts.{later-facts}
+use Rattle.task_turns.specs.declared.calls.Answer.TheVariants.{Done}
+use Rattle.task_turns.specs.declared.calls.Call.TheVariants.{Sync, Add}
+use Rattle.task_turns.specs.declared.next.Next.{Next}
+use Rattle.task_turns.specs.declared.next.Next.TheVariants.{Call as CallNext, Reply as ReplyNext}
+use Rattle.task_turns.specs.Turns.{KeyIsIn}
+use Rattle.user_tasks.specs.declared.creates.Stage.{Stage}
+use Rattle.user_tasks.specs.declared.creates.Stage.TheVariants.{Created, InstallingDe, InstallingCe, Ended}
+use Rattle.user_tasks.specs.Create.{Creating, IsCreating, IsCreate, new_record, changes_at, creates}
+use Rattle.user_tasks.specs.Tasks.{UserTurns}
+use Rattle.user_tasks.proofs.CreateTurns.{at-stage}
+use Rattle.user_tasks.proofs.Writing.{leads-to}
+
+module _ (create : Creating) where
+  abbrev staged : Stage → Creating
+  staged stage = record create { stage = stage }
+
+  -- a stage without a further change
+  still-serves : (stage then : Stage)
+      → changes_at stage create.user create.birth ≡ changes_at then create.user create.birth
+      → {boot : ℕ} {began : Began} → IsCreate create.user create.birth stage boot began
+      → IsCreate create.user create.birth then boot began
+  still-serves stage then same serves =
+      record { command = serves.command; born = serves.born; changes = serves.changes ∙ same }
+
+module _ (create : Creating) (is : IsCreating create) (way : Option Site) where
+  -- the sync behind the last rename
+  pub sync-turn : (next : Next) → create.stage ≡ Created → next ≡ CallNext Sync None → UserTurns create way next
+  sync-turn next here named = subst (UserTurns create way) (sym named)
+      (at-stage create is way Created (CallNext Sync None) here
+      (λ scene images clear rests.
+      let lasting = later-facts (Logged (Born create.birth) ∷ Knows (Some (new_record create.birth)) ∷ [])
+      scene.share.own _ (inr refl) (rests.facts.0, (rests.facts.1.0, tt)) in record {
+        stands = record {
+          quiet = refl;
+          held = refl;
+          leads = leads-to creates (staged create Created) Done refl refl refl (record {
+            facts = (
+              lasting.0,
+              (lasting.1.0, (rests.facts.1.1.0, (rests.facts.1.1.1.0, (refl, tt)))),
+            );
+            known = (tt, (tt, (tt, (tt, (tt, tt)))));
+            serves = still-serves create Created InstallingDe refl rests.serves;
+            same_user = refl;
+            falls = omega arith;
+            makes = omega arith;
+            draws = omega arith;
+          });
+        };
+        may = tt;
+        lasts = omega arith;
+      }))
+
+  -- the device key comes into the ring
+  pub de-installed : (next : Next) → create.stage ≡ InstallingDe
+      → next ≡ CallNext (Add create.user ForDe create.de.spec.key) None
+      → UserTurns create way next
+  de-installed next here named = subst (UserTurns create way) (sym named)
+      (at-stage create is way InstallingDe (CallNext (Add create.user ForDe create.de.spec.key) None) here
+      (λ scene images clear rests. record {
+        stands = record {
+          quiet = refl;
+          mine = refl;
+          given = record { known = new_record create.birth; there = rests.facts.1.0; given = rests.facts.1.1.0 };
+          may = subst (λ command. Installs command create.user ForDe) (sym rests.serves.command) refl;
+          held = refl;
+          leads = leads-to creates (staged create InstallingDe) Done refl refl refl (record {
+            facts = (
+              rests.facts.0,
+              (
+                rests.facts.1.0,
+                (rests.facts.1.1.0, (rests.facts.1.1.1.0, (rests.facts.1.1.1.1.0, (refl, tt)))),
+              ),
+            );
+            known = (tt, (tt, (tt, (tt, (tt, (tt, tt))))));
+            serves = still-serves create InstallingDe InstallingCe refl rests.serves;
+            same_user = refl;
+            falls = omega arith;
+            makes = omega arith;
+            draws = omega arith;
+          });
+        };
+        may = tt;
+        lasts = omega arith;
+      }))
+
+  -- and then the credential key
+  pub ce-installed : (next : Next) → create.stage ≡ InstallingCe
+      → next ≡ CallNext (Add create.user ForCe create.ce.spec.key) None
+      → UserTurns create way next
+  ce-installed next here named = subst (UserTurns create way) (sym named)
+      (at-stage create is way InstallingCe (CallNext (Add create.user ForCe create.ce.spec.key) None) here
+      (λ scene images clear rests. record {
+        stands = record {
+          quiet = refl;
+          mine = refl;
+          given = record { known = new_record create.birth; there = rests.facts.1.0; given = rests.facts.1.1.1.0 };
+          may = subst (λ command. Installs command create.user ForCe) (sym rests.serves.command) refl;
+          held = refl;
+          leads = leads-to creates (staged create InstallingCe) Done refl refl refl (record {
+            facts = (rests.facts.0, (rests.facts.1.1.1.1.0, (rests.facts.1.1.1.1.1.0, (refl, tt))));
+            known = (tt, (tt, (tt, (tt, tt))));
+            serves = still-serves create InstallingCe Ended refl rests.serves;
+            same_user = refl;
+            falls = omega arith;
+            makes = omega arith;
+            draws = omega arith;
+          });
+        };
+        may = tt;
+        lasts = omega arith;
+      }))
+
+  -- both keys are usable when it is told so
+  pub reply-turn : create.stage ≡ Ended → UserTurns create way (ReplyNext DoneReply)
+  reply-turn here = at-stage create is way Ended (ReplyNext DoneReply) here
+      (λ scene images clear rests. record {
+        success = refl;
+        may = subst (λ command. AllowsSuccess (IsLogged create.user scene.share.own)
+            (AreDurable create.user scene.share.own) (KeyIsIn create.user scene.share) scene.boot scene.began command
+            DoneReply) (sym rests.serves.command) (
+              (refl, subst (λ birth. Holds (Logged (Born birth)) scene.share.own) rests.serves.born rests.facts.0),
+              (refl, rests.facts.1.0),
+              (refl, rests.facts.1.1.0),
+              (refl, rests.facts.1.1.1.0),
+            );
+        lasts = omega arith;
+        held = refl;
+      })

@@ -1,0 +1,265 @@
+-- The key ring stands beside the machine after each turn: an entry without a key leaves it, a key that comes in was
+-- given to its user, and no key is a user's who isn't there yet.
+use Rattle.std.proofs.Common.{◌≡◌, ◌≢◌, ℕ, inl, inr, true, false, List, [], ◌∷◌, ◌++◌, refl, sym, ap, ◌∙◌, subst}
+use Rattle.std.proofs.lemmas.Option.{none-some, same_Some}
+use Rattle.std.specs.Prelude.{Bool, Option, Some, None, is_some, Ok}
+use Rattle.std.specs.Cmp.{nat_cmp_total}
+use Rattle.std.specs.FinMap as map
+use Rattle.std.specs.FinMap.{nat_cmp-IsAntisymmetric}
+use Rattle.tree_model.specs.declared.places.Class.{Class}
+use Rattle.tree_model.specs.declared.places.Slot.TheVariants.{Current, Cx}
+use Rattle.tree_model.specs.declared.sites.Site.{Site}
+use Rattle.tree_model.specs.declared.sites.Site.TheVariants.{De, Ce, Temp}
+use Rattle.tree_model.specs.declared.sites.LocalOp.{LocalOp}
+use Rattle.tree_model.specs.declared.sites.LocalOp.TheVariants.{MakeDir, Write, RenameFile}
+use Rattle.tree_model.specs.declared.sites.LocalOp.TheVariants.{RenameDir, RemoveFile, RemoveDir}
+use Rattle.tree_model.specs.Parts.{Part, has_device, renaming_local, local_kind, LocalFits}
+use Rattle.tree_model.specs.Tree.{Kind, Create as Creates, Add as Adds, Drop as Drops, Settle as Settles, kind_if}
+use Rattle.tree_model.specs.Tree.{Destroy as Destroys}
+use Rattle.tree_model.proofs.Maps.{get-insert_other}
+use Rattle.key_ring.specs.Ring.{Ring, owners, key_of, installed, with_owner}
+use Rattle.key_ring.proofs.Rings.{found-added, others-added}
+use Rattle.key_ring.proofs.Owners.{added, decide-owner}
+use Rattle.journal_model.specs.declared.commands.Actor.{Actor}
+use Rattle.journal_model.specs.declared.entries.Entry.{Entry}
+use Rattle.journal_model.specs.declared.entries.Entry.TheVariants.{Changed, Synced, Installed}
+use Rattle.journal_model.specs.Machine.{Machine, after_entry, machine_after}
+use Rattle.journal_model.specs.Users.{no_users, fold_changes}
+use Rattle.journal_model.proofs.Folds.{folded-append}
+use Rattle.journal_model.proofs.Steps.{machine_after-append}
+use Rattle.user_world.specs.declared.changes.LocalChange.{LocalChange}
+use Rattle.user_world.specs.declared.changes.LocalChange.TheVariants.{Born}
+use Rattle.user_world.specs.Changes.{change_of}
+use Rattle.user_world.specs.OwnWorlds.{own_view}
+use Rattle.user_world.specs.Timelines.{Timeline, own_of}
+use Rattle.user_world.specs.Turns.{StepShows}
+use Rattle.user_world.proofs.Timelines.{view-shown, known-shown}
+use Rattle.key_directory.specs.Vaults.{sealed}
+use Rattle.key_directory.proofs.Present.{there-user}
+use Rattle.task_turns.specs.declared.calls.Answer.{Answer}
+use Rattle.task_turns.specs.declared.calls.Call.{Call}
+use Rattle.task_turns.specs.declared.calls.Call.TheVariants.{Op, Sync, List as ListCall, Read}
+use Rattle.task_turns.specs.declared.calls.Call.TheVariants.{Generate, Encrypt, Entries, Add}
+use Rattle.task_turns.specs.declared.next.Next.TheVariants.{Call as CallNext}
+use Rattle.task_turns.specs.Turns.{IsGiven, CallStands}
+use Rattle.bench.specs.declared.made.Made.{Made}
+use Rattle.bench.specs.declared.made.Made.TheVariants.{Heard, Failed}
+use Rattle.bench.specs.Bench.{Plain as Seen, Does, IsMade}
+use Rattle.bench.proofs.Failures.{failed-keys}
+use Rattle.user_tasks.specs.Tasks.{UserTask, tasks, user_of}
+use Rattle.vold_book.specs.declared.tasks.Running.{Running}
+use Rattle.vold_book.specs.declared.tasks.Task.{Task}
+use Rattle.vold_book.specs.declared.tasks.Task.TheVariants.{User as Using, Recovery as Recovers, Refusal, Fault}
+use Rattle.vold_book.specs.Entries.{entry_of, machine_with}
+use Rattle.vold_book.specs.Installed.{IsMadeKey, RingStands}
+use Rattle.vold_book.specs.Recovery.{RecoveryCalls}
+use Rattle.vold_book.specs.State.{Plain, machine_of, timeline, ground_of, vault_of, share_of}
+use Rattle.vold_book.specs.Tasks.{Plans, TaskShows, scene_of}
+use Rattle.vold_book.specs.Turns.{Making}
+use Rattle.vold_book.specs.Whole.{Whole}
+use Rattle.vold_book.proofs.Moves.{after_of, machine_then}
+
+-- a machine with the same ring and the same changes
+pub ring-same : (seed : List ℕ) (keys : Ring) (machine machine' : Machine) → machine'.ring ≡ machine.ring
+    → machine'.log ≡ machine.log → RingStands seed keys machine → RingStands seed keys machine'
+ring-same seed keys machine machine' ring log stands = record {
+  owned = ring ∙ stands.owned;
+  made = λ user class key at. subst (λ l. IsMadeKey seed (fold_changes l) user class key) (sym log)
+      (stands.made user class key at);
+}
+
+-- a machine with nothing in the ring
+pub ring-empty : (seed : List ℕ) (machine : Machine) → machine.ring ≡ [] → RingStands seed [] machine
+ring-empty seed machine none = record { owned = none; made = λ user class key at. absurd (none-some key at) }
+
+-- an entry that leaves ring and changes, and one that empties the ring
+module _ (book : Plain) (entry : Entry) where
+  pub ring-entered : (after_entry book.ledger.entries (machine_of book) entry).ring ≡ (machine_of book).ring
+      → (after_entry book.ledger.entries (machine_of book) entry).log ≡ (machine_of book).log
+      → RingStands book.seed book.bench.keys (machine_of book)
+      → RingStands book.seed book.bench.keys (machine_after (book.ledger.entries ++ entry ∷ []))
+  ring-entered ring log stands =
+      subst (RingStands book.seed book.bench.keys) (sym (machine_after-append book.ledger.entries entry))
+      (ring-same book.seed book.bench.keys (machine_of book) _ ring log stands)
+
+  pub ring-emptied : (after_entry book.ledger.entries (machine_of book) entry).ring ≡ []
+      → RingStands book.seed [] (machine_after (book.ledger.entries ++ entry ∷ []))
+  ring-emptied none =
+      subst (RingStands book.seed []) (sym (machine_after-append book.ledger.entries entry))
+      (ring-empty book.seed _ none)
+
+-- an operation that makes a user finds no device key's directory
+not-create : (there : Bool) (kind : Kind) → (kind ≡ Creates → ⊥) → kind_if there kind ≡ Some Creates → ⊥
+not-create true kind differ is = differ (same_Some kind Creates is)
+not-create false kind differ is = none-some Creates is
+
+adds-differ : Adds ≡ Creates → ⊥
+adds-differ e = cc
+
+settles-differ : Settles ≡ Creates → ⊥
+settles-differ e = cc
+
+drops-differ : Drops ≡ Creates → ⊥
+drops-differ e = cc
+
+destroys-differ : Destroys ≡ Creates → ⊥
+destroys-differ e = cc
+
+renames-unborn : (part : Part) (from to : Site) → is_some (part to) ≡ false
+    → renaming_local part from to ≡ Some Creates → is_some (part De) ≡ false
+renames-unborn part Temp De none is = none
+renames-unborn part Temp (Ce (Cx n)) none is = absurd (not-create (has_device part) Adds adds-differ is)
+renames-unborn part Temp (Ce Current) none is = absurd (none-some Creates is)
+renames-unborn part Temp Temp none is = absurd (none-some Creates is)
+renames-unborn part (Ce (Cx n)) (Ce Current) none is =
+    absurd (not-create (has_device part) Settles settles-differ is)
+renames-unborn part (Ce (Cx n)) De none is = absurd (none-some Creates is)
+renames-unborn part (Ce (Cx n)) (Ce (Cx m)) none is = absurd (none-some Creates is)
+renames-unborn part (Ce (Cx n)) Temp none is = absurd (none-some Creates is)
+renames-unborn part (Ce Current) to none is = absurd (none-some Creates is)
+renames-unborn part De to none is = absurd (none-some Creates is)
+
+removes-none : (part : Part) (site : Site) → local_kind part (RemoveDir site) ≡ Some Creates → ⊥
+removes-none part De is = destroys-differ (same_Some Destroys Creates is)
+removes-none part (Ce slot) is = not-create (has_device part) Drops drops-differ is
+removes-none part Temp is = none-some Creates is
+
+makes-unborn : (part : Part) (op : LocalOp) → LocalFits part op → local_kind part op ≡ Some Creates
+    → is_some (part De) ≡ false
+makes-unborn part (MakeDir site) fits is = absurd (none-some Creates is)
+makes-unborn part (Write site file bytes) fits is = absurd (none-some Creates is)
+makes-unborn part (RenameFile site from to) fits is = absurd fits
+makes-unborn part (RenameDir from to) fits is = renames-unborn part from to fits.1 is
+makes-unborn part (RemoveFile site file) fits is = absurd fits
+makes-unborn part (RemoveDir site) fits is = absurd (removes-none part site is)
+
+absent : {A : Type 0} (found : Option A) → is_some found ≡ false → found ≡ None
+absent None is = refl
+absent (Some a) is = cc
+
+module _ (book : Plain) (whole : Whole book) (number : ℕ) (bench : Seen) where
+  abbrev machine : Machine
+  machine = machine_of book
+
+  abbrev line : Timeline
+  line = timeline book.bench.disk machine
+
+  -- the ring beside the machine after this entry, or none
+  abbrev RingThen : Option Entry → Type 0
+  RingThen entry = RingStands book.seed bench.keys (machine_with book.ledger.entries machine entry)
+
+  ring-stays : bench.keys ≡ book.bench.keys → RingThen None
+  ring-stays same = subst (λ keys. RingStands book.seed keys machine) (sym same) whole.ring
+
+  ring-synced : bench.keys ≡ book.bench.keys → RingThen (Some Synced)
+  ring-synced same = ring-same book.seed bench.keys machine _ refl refl (ring-stays same)
+
+  -- a user who comes isn't there before
+  unborn : (user : ℕ) (op : LocalOp) (change : LocalChange)
+      → StepShows (sealed (vault_of book.seed book.bench.store)) user (own_of user line)
+      (record { op = op; note = Some change }) []
+      → map.get (fold_changes machine.log) user ≡ None
+  unborn user op (Born birth) step =
+      absent (map.get (fold_changes machine.log) user)
+      (sym (there-user (vault_of book.seed book.bench.store) line user whole.worlds)
+      ∙ ap (λ part. is_some (part De)) (sym (view-shown user _ line whole.worlds.shows))
+      ∙ makes-unborn (own_view (own_of user line)) op step.fits step.noted)
+
+  -- and so has no key in the ring
+  ring-changed : (user : ℕ) (change : LocalChange) → map.get (fold_changes machine.log) user ≡ None
+      → bench.keys ≡ book.bench.keys → RingThen (Some (Changed number (change_of user change)))
+  ring-changed user (Born birth) none same = record {
+    owned = whole.ring.owned ∙ ap owners (sym same);
+    made = λ other class key at.
+        let old = whole.ring.made other class key (ap (λ keys. key_of keys other class) (sym same) ∙ at) in
+        let differ : other ≢ user = λ is. none-some old.known
+        (sym none ∙ ap (map.get (fold_changes machine.log)) (sym is) ∙ old.there) in record {
+          known = old.known;
+          there = ap (λ users. map.get users other) (folded-append no_users machine.log (change_of user (Born birth)))
+              ∙ get-insert_other nat_cmp_total nat_cmp-IsAntisymmetric (fold_changes machine.log) user _ other differ
+              ∙ old.there;
+          made = old.made;
+        };
+  }
+
+  ring-noted : (user : ℕ) (op : LocalOp) (change : Option LocalChange)
+      → StepShows (sealed (vault_of book.seed book.bench.store)) user (own_of user line)
+      (record { op = op; note = change }) []
+      → bench.keys ≡ book.bench.keys → RingThen (entry_of number (Op user op None) change)
+  ring-noted user op None step same = ring-stays same
+  ring-noted user op (Some change) step same = ring-changed user change (unborn user op change step) same
+
+  -- a key comes in
+  ring-added : (user : ℕ) (class : Class) (key : List ℕ) → IsGiven (share_of user (ground_of book)) user class key
+      → bench.keys ≡ installed book.bench.keys user class key → RingThen (Some (Installed user class))
+  ring-added user class key given more = record {
+    owned = ap (λ all. with_owner all user class) whole.ring.owned
+        ∙ sym (added book.bench.keys user class key) ∙ ap owners (sym more);
+    made = λ other kind found at.
+        let now : key_of (installed book.bench.keys user class key) other kind ≡ Some found =
+        ap (λ keys. key_of keys other kind) (sym more) ∙ at in
+        elim (decide-owner (other, kind) (user, class)) [
+          | inl same ↦
+              let is : key ≡ found = same_Some key found (sym (found-added user class key book.bench.keys)
+              ∙ ap (λ owner. key_of (installed book.bench.keys user class key) owner.0 owner.1) (sym same) ∙ now) in
+              subst (λ owner. IsMadeKey book.seed (fold_changes machine.log) owner.0 owner.1 found) (sym same)
+              (record {
+                known = given.known;
+                there = sym (known-shown user _ line whole.worlds.shows) ∙ given.there;
+                made = sym is ∙ given.given;
+              })
+          | inr differ ↦ whole.ring.made other kind found
+              (sym (others-added user class key book.bench.keys (other, kind) differ) ∙ now)
+        ];
+  }
+
+  -- a call of a user's task that was done
+  user-rings : (task : UserTask) (began : _) (call : Call) (change : Option LocalChange) (answer : Answer)
+      → CallStands tasks task (scene_of (user_of task) (ground_of book) began) call change
+      → Does book.bench bench call answer → RingThen (entry_of number call change)
+  user-rings task began (Op owner op names) change answer stands does =
+      subst (λ u. RingThen (entry_of number (Op u op names) change)) (sym stands.mine)
+      (ring-noted (user_of task) op change stands.step (ap (λ b. b.keys) does.1))
+  user-rings task began Sync change answer stands does = ring-synced (ap (λ b. b.keys) does.1)
+  user-rings task began (Generate tag app_id) change answer stands does = ring-stays (ap (λ b. b.keys) does.3)
+  user-rings task began (Encrypt blob app_id nonce key) change answer stands does =
+      ring-stays (ap (λ b. b.keys) does.1)
+  user-rings task began (Add owner class key) change answer stands does =
+      subst (λ u. bench.keys ≡ installed book.bench.keys u class key → RingThen (Some (Installed u class)))
+      (sym stands.mine) (ring-added (user_of task) class key stands.given) (ap (λ b. b.keys) does.1)
+  user-rings task began ListCall change answer stands does = absurd stands
+  user-rings task began (Read place) change answer stands does = absurd stands
+  user-rings task began Entries change answer stands does = absurd stands
+
+  -- a call of a recovery's
+  recovery-rings : (recovery : _) (call : Call) (answer : Answer) → RecoveryCalls (ground_of book) recovery call
+      → Does book.bench bench call answer → RingThen (entry_of number call None)
+  recovery-rings recovery (Op owner op names) answer calls does = ring-stays (ap (λ b. b.keys) does.1)
+  recovery-rings recovery Sync answer calls does = ring-synced (ap (λ b. b.keys) does.1)
+  recovery-rings recovery ListCall answer calls does = ring-stays (ap (λ b. b.keys) does.2)
+  recovery-rings recovery (Read place) answer calls does = ring-stays (ap (λ b. b.keys) does.1)
+  recovery-rings recovery Entries answer calls does = ring-stays (ap (λ b. b.keys) does.1.2)
+  recovery-rings recovery (Generate tag app_id) answer calls does = absurd calls
+  recovery-rings recovery (Encrypt blob app_id nonce key) answer calls does = absurd calls
+  recovery-rings recovery (Add user class key) answer calls does = absurd calls
+
+module _ (book : Plain) (actor : Actor) (it : Running) (making : Making) (whole : Whole book)
+    (plans : Plans book actor it making.task (CallNext making.call making.change)) where
+  -- any call
+  pub ring-called : (made : Made) (bench : Seen) → IsMade book.bench bench making.call (Ok made)
+      → RingStands book.seed bench.keys (machine_then book (after_of book it.number making made bench))
+  ring-called (Failed device) bench is_made =
+      ring-stays book whole it.number bench (failed-keys book.bench bench making.call is_made.1)
+  ring-called (Heard answer) bench is_made = by making.task plans.shows
+    where
+      by : (task : Task)
+          → TaskShows (ground_of book) plans.on.began task (CallNext making.call making.change)
+          → RingThen book whole it.number bench (entry_of it.number making.call making.change)
+      by (Using task) shows =
+          user-rings book whole it.number bench task plans.on.began making.call making.change answer shows.stands
+          is_made
+      by (Recovers recovery) shows =
+          subst (λ change. RingThen book whole it.number bench (entry_of it.number making.call change)) (sym shows.0)
+          (recovery-rings book whole it.number bench recovery making.call answer shows.1 is_made)
+      by (Refusal reply) shows = cc
+      by (Fault device held) shows = cc
