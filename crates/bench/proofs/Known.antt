@@ -30,7 +30,7 @@ use Rattle.step_core.specs.Table.{NamedPlaces, named_by}
 use Rattle.task_turns.specs.declared.calls.Answer.{Answer}
 use Rattle.task_turns.specs.declared.calls.Call.{Call}
 use Rattle.task_turns.specs.declared.calls.Call.TheVariants.{Op, Sync, List as ListCall, Read}
-use Rattle.task_turns.specs.declared.calls.Call.TheVariants.{Generate, Encrypt, Entries, Add}
+use Rattle.task_turns.specs.declared.calls.Call.TheVariants.{Generate, Encrypt, Entries, Add, Remove}
 use Rattle.bench.specs.declared.made.Made.{Made}
 use Rattle.bench.specs.declared.made.Made.TheVariants.{Heard, Failed}
 use Rattle.bench.specs.Bench.{Plain, KnowsPlaces, named_in, places_after, Fits, Rests}
@@ -238,6 +238,7 @@ module _ (Which : Place → Type 0) (never : (user : ℕ) → ¬ (Which (TempPla
     knows-heard (Encrypt blob app_id nonce key) answer fits brings does = subst (KnowsTree Which) (sym does.1) knows
     knows-heard Entries answer fits brings does = subst (KnowsTree Which) (sym does.1.2) knows
     knows-heard (Add user class key) answer fits brings does = subst (KnowsTree Which) (sym does.1) knows
+    knows-heard (Remove user class) answer fits brings does = subst (KnowsTree Which) (sym does.1) knows
 
     -- a call that failed
     knows-undone : (call : Call) → Fits before call → BringsName before call → IsFailed before after call
@@ -250,6 +251,7 @@ module _ (Which : Place → Type 0) (never : (user : ℕ) → ¬ (Which (TempPla
     knows-undone (Encrypt blob app_id nonce key) fits brings failed = knows-rests failed
     knows-undone Entries fits brings failed = knows-rests failed
     knows-undone (Add user class key) fits brings failed = knows-rests failed
+    knows-undone (Remove user class) fits brings failed = knows-rests failed
 
   -- each call keeps what is known, by its answer
   pub knows-made : (before after : Plain) (call : Call) (told : Result Made NoMemory) → KnowsTree Which before

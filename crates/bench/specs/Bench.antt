@@ -16,7 +16,7 @@ use Rattle.tree_model.specs.Named.{named_at}
 use Rattle.tree_model.specs.Parts.{part_of, LocalFits}
 use Rattle.tree_model.specs.Sites.{op_of, place_of}
 use Rattle.tree_model.specs.Tree.{Tree}
-use Rattle.key_ring.specs.Ring.{Ring, installed}
+use Rattle.key_ring.specs.Ring.{Ring, installed, removed}
 use Rattle.deferred_delete.specs.Deferral.{Deferral, noted}
 use Rattle.journal_model.specs.declared.entries.Device.{Device}
 use Rattle.journal_model.specs.declared.entries.Device.TheVariants.{Tree as TreeDevice, Store as StoreDevice}
@@ -30,7 +30,7 @@ use Rattle.task_turns.specs.declared.calls.Answer.{Answer}
 use Rattle.task_turns.specs.declared.calls.Answer.TheVariants.{Done, Blob as IsBlob, Sealed}
 use Rattle.task_turns.specs.declared.calls.Call.{Call}
 use Rattle.task_turns.specs.declared.calls.Call.TheVariants.{Op, Sync, List as ListCall, Read}
-use Rattle.task_turns.specs.declared.calls.Call.TheVariants.{Generate, Encrypt, Entries, Add}
+use Rattle.task_turns.specs.declared.calls.Call.TheVariants.{Generate, Encrypt, Entries, Add, Remove}
 use Rattle.bench.specs.declared.made.Made.{Made}
 use Rattle.bench.specs.declared.made.Made.TheVariants.{Heard, Failed}
 
@@ -117,6 +117,7 @@ Fits bench (Read place) = is_some (map.get (view bench.disk) place) ≡ true
 Fits bench (Generate tag app_id) = length bench.store.given < 2 ^ 63
 Fits bench (Encrypt blob app_id nonce key) = IsCurrent bench.store blob app_id
 Fits bench (Add user class key) = Unit {0}
+Fits bench (Remove user class) = Unit {0}
 Fits bench Entries = bench.list.next + bench.list.promised + length bench.store.entries < 2 ^ 63
 
 abbrev pub device_of : Call → Device
@@ -128,6 +129,7 @@ device_of (Generate tag app_id) = StoreDevice
 device_of (Encrypt blob app_id nonce key) = StoreDevice
 device_of Entries = StoreDevice
 device_of (Add user class key) = RingDevice
+device_of (Remove user class) = RingDevice
 
 -- everything but the counts as it was
 abbrev pub Rests : Plain → Plain → Type 0
@@ -165,6 +167,10 @@ Does before after Entries answer = (answer ≡ Done) × ((found : List Blob)
     × (after ≡ record before { store_counts = after.store_counts; list = listed before.list found }))
 Does before after (Add user class key) answer = (answer ≡ Done) × (after ≡ record before {
   keys = installed before.keys user class key;
+  ring_counts = after.ring_counts;
+})
+Does before after (Remove user class) answer = (answer ≡ Done) × (after ≡ record before {
+  keys = removed before.keys user class;
   ring_counts = after.ring_counts;
 })
 

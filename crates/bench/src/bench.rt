@@ -6,7 +6,7 @@ ghost use Rattle.deferred_delete.specs.Deferral.{Deferral};
 ghost use Rattle.keystore_model.specs.Store.{IsCurrent};
 ghost use Rattle.step_core.specs.Table.{empty_table};
 ghost use Rattle.task_turns.specs.declared.calls.Call.TheVariants.{Op, Sync, List as ListCall, Read};
-ghost use Rattle.task_turns.specs.declared.calls.Call.TheVariants.{Generate, Encrypt, Entries, Add};
+ghost use Rattle.task_turns.specs.declared.calls.Call.TheVariants.{Generate, Encrypt, Entries, Add, Remove};
 ghost use Rattle.tree_model.specs.Disk.{view};
 ghost use Rattle.tree_model.specs.Parts.{part_of, LocalFits};
 
@@ -87,6 +87,7 @@ impl<T: TreeDisk, K: Keystore, G: KeyRing> Bench<T, K, G> {
             } => self.encrypt(alloc, *blob, app_id.as_slice(), *nonce, *key),
             Call::Entries => self.list_entries(alloc),
             Call::Add { user, class, key } => self.add(alloc, *user, *class, key),
+            Call::Remove { user, class } => self.remove(*user, *class),
         }
     }
 
@@ -220,6 +221,17 @@ impl<T: TreeDisk, K: Keystore, G: KeyRing> Bench<T, K, G> {
             (Add user class key.now) result }
     {
         match self.ring.add(alloc, user, class, key) {
+            Ok(()) => Ok(Made::Heard(Answer::Done)),
+            Err(fault) => failure(Device::Ring, fault),
+        }
+    }
+
+    /// Takes the user's key out.
+    fn remove(&mut self, user: u32, class: Class) -> Result<Made, NoMemory>
+        ensures { Makes (senses_by T.disk T.counts K.store K.counts G.ring G.counts) self.old self.new
+            (Remove user class) result }
+    {
+        match self.ring.remove(user, class) {
             Ok(()) => Ok(Made::Heard(Answer::Done)),
             Err(fault) => failure(Device::Ring, fault),
         }

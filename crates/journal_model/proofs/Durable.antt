@@ -9,7 +9,7 @@ use Rattle.journal_model.specs.declared.commands.Reply.TheVariants.{Done}
 use Rattle.journal_model.specs.declared.entries.Change.{Change}
 use Rattle.journal_model.specs.declared.entries.Change.TheVariants.{Create as Created}
 use Rattle.journal_model.specs.declared.entries.Entry.{Entry}
-use Rattle.journal_model.specs.declared.entries.Entry.TheVariants.{Began, Changed, Synced, Installed}
+use Rattle.journal_model.specs.declared.entries.Entry.TheVariants.{Began, Changed, Synced, Installed, Evicted}
 use Rattle.journal_model.specs.declared.entries.Entry.TheVariants.{Stopped, Restarted, Replied}
 use Rattle.journal_model.specs.Users.{owner_of}
 use Rattle.journal_model.specs.Machine.{Machine, Running, first_machine, after_entry, machine_from, NoChangeOf}
@@ -75,6 +75,7 @@ step before machine Synced counted may = (
   record { fewer = counted; first = fronts machine.kept (length machine.log) machine.log counted (omega arith) },
 )
 step before machine (Installed user class) counted may = (counted, survive-same machine _ refl refl)
+step before machine (Evicted user class) counted may = (counted, survive-same machine _ refl refl)
 step before machine (Stopped kept) counted may =
     let cut : length (take kept machine.log) ≡ kept = length-take-le kept machine.log may.2 in
     let again : take kept (take kept machine.log) ≡ take kept machine.log =

@@ -3,7 +3,7 @@ use Rattle.std.proofs.Common.{◌≡◌, ◌+◌, ◌<◌, ℕ, List, [], ◌∷
 use Rattle.std.proofs.lemmas.List.{take_more}
 use Rattle.journal_model.specs.declared.entries.Change.{Change}
 use Rattle.journal_model.specs.declared.entries.Entry.{Entry}
-use Rattle.journal_model.specs.declared.entries.Entry.TheVariants.{Began, Changed, Synced, Installed}
+use Rattle.journal_model.specs.declared.entries.Entry.TheVariants.{Began, Changed, Synced, Installed, Evicted}
 use Rattle.journal_model.specs.declared.entries.Entry.TheVariants.{Stopped, Restarted, Replied}
 use Rattle.journal_model.specs.Users.{Users, no_users, after_change, folded, fold_changes}
 use Rattle.journal_model.specs.Log.{log_after}
@@ -16,6 +16,7 @@ log-after_entry before machine (Began number actor command) = refl
 log-after_entry before machine (Changed number change) = refl
 log-after_entry before machine Synced = refl
 log-after_entry before machine (Installed user class) = refl
+log-after_entry before machine (Evicted user class) = refl
 log-after_entry before machine (Stopped kept) = refl
 log-after_entry before machine (Restarted boot level) = refl
 log-after_entry before machine (Replied number reply) = refl

@@ -5,17 +5,17 @@ use Rattle.std.specs.Ordering.{nat_cmp, eq_by_cmp}
 use Rattle.std.specs.FinMap as map
 use Rattle.tree_model.specs.declared.places.Class.{Class}
 use Rattle.tree_model.specs.declared.places.Class.TheVariants.{De, Ce}
-use Rattle.key_ring.specs.Ring.{Owner, has_owner, with_owner}
+use Rattle.key_ring.specs.Ring.{Owner, has_owner, with_owner, without_owner}
 use Rattle.journal_model.specs.declared.commands.Actor.{Actor}
 use Rattle.journal_model.specs.declared.commands.Actor.TheVariants.{Boot}
 use Rattle.journal_model.specs.declared.commands.Command.{Command}
-use Rattle.journal_model.specs.declared.commands.Command.TheVariants.{Create, Recover}
+use Rattle.journal_model.specs.declared.commands.Command.TheVariants.{Create, Lock, Recover}
 use Rattle.journal_model.specs.declared.commands.Reply.{Reply}
 use Rattle.journal_model.specs.declared.commands.Reply.TheVariants.{Done, Ended, TreeFault, StoreFault, RingFault}
 use Rattle.journal_model.specs.declared.entries.Change.{Change}
 use Rattle.journal_model.specs.declared.entries.Change.TheVariants.{Create as Created}
 use Rattle.journal_model.specs.declared.entries.Entry.{Entry}
-use Rattle.journal_model.specs.declared.entries.Entry.TheVariants.{Began, Changed, Synced, Installed}
+use Rattle.journal_model.specs.declared.entries.Entry.TheVariants.{Began, Changed, Synced, Installed, Evicted}
 use Rattle.journal_model.specs.declared.entries.Entry.TheVariants.{Stopped, Restarted, Replied}
 use Rattle.journal_model.specs.declared.phase.Phase.{Phase}
 use Rattle.journal_model.specs.declared.phase.Phase.TheVariants.{Up, Down, Halted}
@@ -84,10 +84,16 @@ abbrev pub is_up : Phase → Bool
 is_up Up = true
 is_up phase = false
 
+-- whether the user's credential key is in the key ring, if there is one
+abbrev pub is_unlocked : Option ℕ → List Owner → Bool
+is_unlocked None ring = false
+is_unlocked (Some user) ring = has_owner ring user Ce
+
 -- what decides whether a command is refused that begins on the machine
 abbrev pub facts_of : Machine → Command → Facts
 facts_of machine command = record {
   present = is_present (user_in command) (fold_changes machine.log);
+  installed = is_unlocked (user_in command) machine.ring;
   ready = is_up machine.phase;
 }
 
@@ -126,6 +132,7 @@ after_entry before machine (Changed number change) = record machine {
 }
 after_entry before machine Synced = record machine { kept = length machine.log }
 after_entry before machine (Installed user class) = record machine { ring = with_owner machine.ring user class }
+after_entry before machine (Evicted user class) = record machine { ring = without_owner machine.ring user class }
 after_entry before machine (Stopped kept) =
     record machine { phase = Halted; log = take kept machine.log; kept = kept; ring = []; running = no_running }
 after_entry before machine (Restarted boot level) = record machine { phase = Down; boot = boot; level = level }
@@ -160,11 +167,16 @@ AllowsChange boot running command change = ⊥
 -- a command makes this key of the user usable
 abbrev pub Installs : Command → ℕ → Class → Type 0
 Installs (Create owner) user class = owner ≡ user
-Installs Recover user class = ⊥
+Installs command user class = ⊥
 
--- the user's key of this class is in the key ring
-abbrev pub HasKey : Machine → ℕ → Class → Type 0
-HasKey machine user class = has_owner machine.ring user class ≡ true
+-- a command takes this key of the user out of use
+abbrev pub Evicts : Command → ℕ → Class → Type 0
+Evicts (Lock owner) user class = (owner ≡ user) × (class ≡ Ce)
+Evicts command user class = ⊥
+
+-- whether the user's key of this class is in the key ring
+abbrev pub HasKey : Machine → ℕ → Class → Bool → Type 0
+HasKey machine user class there = has_owner machine.ring user class ≡ there
 
 -- how a reply ends a command: it did its work, it was refused, or a device failed
 pub data ReplyKind : Type 0 where
@@ -179,12 +191,13 @@ kind_of_reply RingFault = Fault
 kind_of_reply reply = Refusal
 
 -- what a reply tells that a command did its work, by which changes are logged, whose are durable, and which keys are
--- installed, in this boot
-abbrev pub AllowsSuccess : (Change → Type 0) → (Option ℕ → Type 0) → (ℕ → Class → Type 0) → ℕ → Running → Command
-    → Reply → Type 0
+-- installed or not, in this boot
+abbrev pub AllowsSuccess : (Change → Type 0) → (Option ℕ → Type 0) → (ℕ → Class → Bool → Type 0) → ℕ → Running
+    → Command → Reply → Type 0
 AllowsSuccess Logged Durable Has boot running (Create user) Done =
-    Logged (Created user (record { boot = boot; index = running.index })) × Durable (Some user) × Has user De
-    × Has user Ce
+    Logged (Created user (record { boot = boot; index = running.index })) × Durable (Some user)
+    × Has user De true × Has user Ce true
+AllowsSuccess Logged Durable Has boot running (Lock user) Done = Has user Ce false
 AllowsSuccess Logged Durable Has boot running Recover (Ended count) = (count ≡ 0) × Durable None
 AllowsSuccess Logged Durable Has boot running command reply = ⊥
 
@@ -221,6 +234,8 @@ MayCome before machine Synced =
 MayCome before machine (Installed user class) = (map.contains_key (fold_changes machine.log) user ≡ true)
     × ((number : ℕ) × IsSomeAnd (map.get machine.running number)
     (λ running. (running.verdict ≡ None) × Installs running.command user class))
+MayCome before machine (Evicted user class) = (number : ℕ) × IsSomeAnd (map.get machine.running number)
+    (λ running. (running.verdict ≡ None) × Evicts running.command user class)
 MayCome before machine (Stopped kept) =
     (machine.phase ≢ Halted) × (machine.kept ≤ kept) × (kept ≤ length machine.log)
 MayCome before machine (Restarted boot level) =

@@ -61,6 +61,8 @@ impl ExactOrd for Actor {
 pub enum Command {
     /// Makes a user's two keys, under the empty secret.
     Create { user: u32 },
+    /// Takes a user's credential key out of the key ring.
+    Lock { user: u32 },
     /// Brings the machine up after a restart.
     Recover,
 }
@@ -71,7 +73,7 @@ impl Command {
         ensures { result ≡ actor_of self.now }
     {
         match self {
-            Command::Create { user } => Actor::User(*user),
+            Command::Create { user } | Command::Lock { user } => Actor::User(*user),
             Command::Recover => Actor::Boot,
         }
     }
@@ -92,6 +94,7 @@ impl Command {
     {
         match self {
             Command::Create { user } => Ok(Command::Create { user: *user }),
+            Command::Lock { user } => Ok(Command::Lock { user: *user }),
             Command::Recover => Ok(Command::Recover),
         }
     }
@@ -106,6 +109,10 @@ pub enum Reply {
     Ended(u64),
     /// The user to be created was there when the command began.
     UserExists,
+    /// The user wasn't there when the command began.
+    NoUser,
+    /// The user's credential key was not in the key ring when the command began.
+    NotInstalled,
     /// The machine was ready when the recovery began.
     Ready,
     /// The tree device failed.

@@ -53,6 +53,11 @@ pub enum Entry {
         user: u32,
         class: Class,
     },
+    /// The user's key of this class is no longer in the key ring.
+    Evicted {
+        user: u32,
+        class: Class,
+    },
     /// The machine stopped, and this number of changes survived.
     Stopped {
         kept: u64,

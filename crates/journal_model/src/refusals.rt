@@ -8,6 +8,8 @@ use crate::commands::{Command, Reply};
 pub struct Facts {
     /// The user whom the command is for is there.
     pub present: bool,
+    /// The credential key of this user is in the key ring.
+    pub installed: bool,
     /// The machine takes every command.
     pub ready: bool,
 }
@@ -18,6 +20,9 @@ pub fn refusal(command: &Command, facts: Facts) -> Option<Reply>
 {
     match command {
         Command::Create { .. } => due(facts.present, Reply::UserExists),
+        Command::Lock { .. } => {
+            due(!facts.present, Reply::NoUser).or(due(!facts.installed, Reply::NotInstalled))
+        }
         Command::Recover => due(facts.ready, Reply::Ready),
     }
 }

@@ -156,12 +156,14 @@ fn follow(alloc: Global, log: &mut Vec<Change>, entry: &Entry) -> Result<(), NoM
     Ok(())
 }
 
-/// The refusal that the map of users alone decides: for a create, that the user is there. A recovery has none.
+/// The refusal that the map of users alone decides: for a create, that the user is there, and for other commands of a
+/// user, that the user isn't. A recovery has none.
 pub fn defined_reply(command: &Command, map: &UserMap) -> Option<Reply>
     ensures { result ≡ defined_reply_of command.now map.now }
 {
     let facts = Facts {
         present: is_present(command, map),
+        installed: true,
         ready: false,
     };
     refusal(command, facts)

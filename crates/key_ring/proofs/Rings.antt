@@ -129,7 +129,7 @@ module _ (user : ℕ) (class : Class) where
     }
 
   -- a removed key
-  gone-removed : (ring : Ring) → IsRing ring → key_of (removed ring user class) user class ≡ None
+  pub gone-removed : (ring : Ring) → IsRing ring → key_of (removed ring user class) user class ≡ None
   gone-removed [] whole = refl
   gone-removed (first ∷ ring) whole =
       elim (is_of user class first) as (λ t. is_of user class first ≡ t
@@ -139,7 +139,7 @@ module _ (user : ℕ) (class : Class) where
             ∙ gone-removed ring whole.1
       ] refl
 
-  others-removed : (ring : Ring) (other : Owner) → other ≢ (user, class)
+  pub others-removed : (ring : Ring) (other : Owner) → other ≢ (user, class)
       → key_of (removed ring user class) other.0 other.1 ≡ key_of ring other.0 other.1
   others-removed [] other differ = refl
   others-removed (first ∷ ring) other differ =

@@ -2,7 +2,8 @@
 use Rattle.std.specs.Prelude.{◌≡◌, ◌≢◌, ℕ, not, List, [], ◌∷◌, ◌++◌, Some, None, IsSome, is_some}
 use Rattle.std.specs.List.{filter}
 use Rattle.tree_model.specs.declared.places.Class.{Class}
-use Rattle.key_ring.specs.Ring.{Owner, Ring, IsRing, is_of, key_of, owners, has_owner, installed, removed, with_owner}
+use Rattle.key_ring.specs.Ring.{Owner, Ring, IsRing, is_of, key_of, owners, has_owner, installed, removed}
+use Rattle.key_ring.specs.Ring.{with_owner, without_owner}
 
 -- an added key is found, and each other as before; it is last where none was there, and else each has its place
 pub record AfterAdd (ring : Ring) (user : ℕ) (class : Class) (key : List ℕ) : Type 0 where
@@ -29,8 +30,11 @@ pub record LawOfInstalled : Type 0 where
   pub after_remove : (ring : Ring) (user : ℕ) (class : Class) → IsRing ring → AfterRemove ring user class
 
 -- what is known of a ring by the users and classes of its keys alone: who has a key, and the order after an addition
+-- and after a removal
 pub record LawOfOwners : Type 0 where
   pub found : (ring : Ring) (user : ℕ) (class : Class)
       → has_owner (owners ring) user class ≡ is_some (key_of ring user class)
   pub added : (ring : Ring) (user : ℕ) (class : Class) (key : List ℕ)
       → owners (installed ring user class key) ≡ with_owner (owners ring) user class
+  pub taken : (ring : Ring) (user : ℕ) (class : Class)
+      → owners (removed ring user class) ≡ without_owner (owners ring) user class

@@ -45,6 +45,11 @@ with_owner [] user class = (user, class) ∷ []
 with_owner (first ∷ all) user class =
     cond (is_owner user class first) (first ∷ all) (first ∷ with_owner all user class)
 
+-- these without a user and class
+abbrev pub without_owner : List Owner → ℕ → Class → List Owner
+without_owner [] user class = []
+without_owner (first ∷ all) user class = cond (is_owner user class first) all (first ∷ without_owner all user class)
+
 -- the key of a user and class
 abbrev pub key_of : Ring → ℕ → Class → Option (List ℕ)
 key_of [] user class = None

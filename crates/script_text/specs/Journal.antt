@@ -3,12 +3,13 @@ use Rattle.std.specs.Prelude.{ℕ, List, [], ◌∷◌, ◌++◌, length, codes}
 use Rattle.std.specs.List.{flat_map}
 use Rattle.journal_model.specs.declared.commands.Command.{Command}
 use Rattle.journal_model.specs.declared.commands.Reply.{Reply}
-use Rattle.journal_model.specs.declared.commands.Reply.TheVariants.{Done, Ended, UserExists, Ready}
+use Rattle.journal_model.specs.declared.commands.Reply.TheVariants.{Done, Ended, UserExists, NoUser}
+use Rattle.journal_model.specs.declared.commands.Reply.TheVariants.{NotInstalled, Ready}
 use Rattle.journal_model.specs.declared.commands.Reply.TheVariants.{TreeFault, StoreFault, RingFault}
 use Rattle.journal_model.specs.declared.entries.Change.{Change}
 use Rattle.journal_model.specs.declared.entries.Change.TheVariants.{Create as Created}
 use Rattle.journal_model.specs.declared.entries.Entry.{Entry}
-use Rattle.journal_model.specs.declared.entries.Entry.TheVariants.{Began, Changed, Synced, Installed}
+use Rattle.journal_model.specs.declared.entries.Entry.TheVariants.{Began, Changed, Synced, Installed, Evicted}
 use Rattle.journal_model.specs.declared.entries.Entry.TheVariants.{Stopped, Restarted, Replied}
 use Rattle.script_text.specs.declared.script.Line.TheVariants.{Do}
 use Rattle.script_text.specs.Words.{decimal, actor_word, class_word, line_of}
@@ -27,6 +28,8 @@ abbrev pub reply_words : Reply → List (List ℕ)
 reply_words Done = codes "ok" ∷ []
 reply_words (Ended count) = codes "ok" ∷ decimal count ∷ []
 reply_words UserExists = codes "user-exists" ∷ []
+reply_words NoUser = codes "no-user" ∷ []
+reply_words NotInstalled = codes "not-installed" ∷ []
 reply_words Ready = codes "ready" ∷ []
 reply_words TreeFault = codes "tree-fault" ∷ []
 reply_words StoreFault = codes "store-fault" ∷ []
@@ -38,6 +41,7 @@ entry_words (Began number actor command) = codes "began" ∷ decimal number ∷ 
 entry_words (Changed number change) = codes "changed" ∷ decimal number ∷ change_words change
 entry_words Synced = codes "synced" ∷ []
 entry_words (Installed user class) = codes "installed" ∷ decimal user ∷ class_word class ∷ []
+entry_words (Evicted user class) = codes "evicted" ∷ decimal user ∷ class_word class ∷ []
 entry_words (Stopped kept) = codes "stopped" ∷ decimal kept ∷ []
 entry_words (Restarted boot level) = codes "restarted" ∷ decimal boot ∷ decimal level ∷ []
 entry_words (Replied number reply) = codes "replied" ∷ decimal number ∷ reply_words reply

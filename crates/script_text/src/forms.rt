@@ -17,6 +17,7 @@ use tree_model::Cut;
 pub enum Keyword {
     Seed,
     Create,
+    Lock,
     Recover,
     Turn,
     All,
@@ -41,9 +42,10 @@ const LEVEL: Kind = Kind::Number { least: 1, most: 1 };
 
 impl Keyword {
     /// All of them.
-    const EVERY: [Keyword; 7] = [
+    const EVERY: [Keyword; 8] = [
         Keyword::Seed,
         Keyword::Create,
+        Keyword::Lock,
         Keyword::Recover,
         Keyword::Turn,
         Keyword::All,
@@ -59,6 +61,7 @@ impl Keyword {
         match self {
             Keyword::Seed => (b"seed", Kinds::one(Kind::Bytes)),
             Keyword::Create => (b"create", Kinds::one(ANY_NUMBER)),
+            Keyword::Lock => (b"lock", Kinds::one(ANY_NUMBER)),
             Keyword::Recover => (b"recover", Kinds::one(Kind::Never)),
             Keyword::Turn => (b"turn", Kinds::two(Kind::Actor, COUNT)),
             Keyword::All => (b"all", Kinds::none()),
@@ -108,6 +111,9 @@ impl Keyword {
         match self {
             Keyword::Seed => Line::Seed(first.into_bytes(alloc)),
             Keyword::Create => Line::Do(Command::Create {
+                user: first.number(),
+            }),
+            Keyword::Lock => Line::Do(Command::Lock {
                 user: first.number(),
             }),
             Keyword::Recover => Line::Do(Command::Recover),

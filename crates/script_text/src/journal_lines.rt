@@ -47,6 +47,10 @@ fn push_entry(alloc: Global, out: &mut Vec<u8>, entry: &Entry) -> Result<(), NoM
             let class = Shown::Text(text_of_class(*class));
             Row::two(b"installed", small(*user), class).push(alloc, out)?;
         }
+        Entry::Evicted { user, class } => {
+            let class = Shown::Text(text_of_class(*class));
+            Row::two(b"evicted", small(*user), class).push(alloc, out)?;
+        }
         Entry::Stopped { kept } => Row::one(b"stopped", Shown::Number(*kept)).push(alloc, out)?,
         Entry::Restarted { boot, level } => {
             Row::two(b"restarted", Shown::Number(*boot), small(*level)).push(alloc, out)?;
@@ -77,6 +81,8 @@ fn row_of_reply(reply: Reply) -> Row<'static>
         Reply::Done => Row::alone(b"ok"),
         Reply::Ended(count) => Row::one(b"ok", Shown::Number(count)),
         Reply::UserExists => Row::alone(b"user-exists"),
+        Reply::NoUser => Row::alone(b"no-user"),
+        Reply::NotInstalled => Row::alone(b"not-installed"),
         Reply::Ready => Row::alone(b"ready"),
         Reply::TreeFault => Row::alone(b"tree-fault"),
         Reply::StoreFault => Row::alone(b"store-fault"),

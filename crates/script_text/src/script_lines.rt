@@ -55,6 +55,7 @@ pub fn push_command(alloc: Global, out: &mut Vec<u8>, command: &Command) -> Resu
         Command::Create { user } => {
             Row::one(Keyword::Create.text(), number(*user)).push(alloc, out)
         }
+        Command::Lock { user } => { Row::one(Keyword::Lock.text(), number(*user)).push(alloc, out) }
         Command::Recover => Row::alone(Keyword::Recover.text()).push(alloc, out),
     }
 }

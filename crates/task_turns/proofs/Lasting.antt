@@ -1,6 +1,6 @@
 -- The facts that a task rests on last until its next turn, as long as the entries of the blobs that it holds stay.
-use Rattle.std.proofs.Common.{ℕ, List, [], ◌∷◌, sym, ap, ◌∙◌, subst}
-use Rattle.std.specs.Prelude.{IsSome, Contains}
+use Rattle.std.proofs.Common.{◌≡◌, ℕ, List, [], ◌∷◌, sym, ap, ◌∙◌, subst}
+use Rattle.std.specs.Prelude.{is_some, Contains}
 use Rattle.tree_model.specs.declared.blobs.Blob.{Blob}
 use Rattle.journal_model.specs.Made.{key_of}
 use Rattle.keystore_model.specs.declared.entry.Tag.{Tag}
@@ -29,7 +29,7 @@ module _ (held : List Blob) (before after : Share) (later : LaterShare held befo
   fact-lasts (Same a b) is has = has
   fact-lasts (Given key class user birth) is has =
       has ∙ sym (ap (λ seed. key_of seed class user birth) later.seed)
-  fact-lasts (HasKey class) is has = subst (λ keys. IsSome (keys class)) (sym later.keys) has
+  fact-lasts (HasKey class there) is has = subst (λ keys. is_some (keys class) ≡ there) (sym later.keys) has
 
 pub facts-last : (facts : List ShareFact) (held : List Blob) (before after : Share) → LaterShare held before after
     → AreHeld held facts → AllHas facts before → AllHas facts after

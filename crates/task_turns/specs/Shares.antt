@@ -1,5 +1,5 @@
 -- A user's share of the devices, the facts that a task rests on there, and when they last.
-use Rattle.std.specs.Prelude.{◌≡◌, ℕ, List, [], ◌∷◌, Option, Some, IsSome, Contains}
+use Rattle.std.specs.Prelude.{◌≡◌, ℕ, Bool, List, [], ◌∷◌, Option, Some, is_some, Contains}
 use Rattle.tree_model.specs.declared.blobs.Blob.{Blob}
 use Rattle.tree_model.specs.declared.places.Class.{Class}
 use Rattle.journal_model.specs.declared.entries.Birth.{Birth}
@@ -29,8 +29,8 @@ pub data ShareFact : Type 0 where
   Same : List ℕ → List ℕ → ShareFact
   -- these bytes are the key that a user of this birth was given
   Given : List ℕ → Class → ℕ → Birth → ShareFact
-  -- the user's key of this class is in the ring
-  HasKey : Class → ShareFact
+  -- whether the user's key of this class is in the ring
+  HasKey : Class → Bool → ShareFact
 
 pub record IsKeyFor (vault : Vault) (blob : Blob) (app_id : List ℕ) (tag : Tag) : Type 0 where
   pub entry : StoreEntry
@@ -50,7 +50,7 @@ Has (KeyFor blob app_id tag) share = IsKeyFor share.vault blob app_id tag
 Has (SealedFor blob app_id tag nonce key sealed) share = IsSealedFor share.vault blob app_id tag nonce key sealed
 Has (Same a b) share = a ≡ b
 Has (Given key class user birth) share = key ≡ key_of share.vault.seed class user birth
-Has (HasKey class) share = IsSome (share.keys class)
+Has (HasKey class there) share = is_some (share.keys class) ≡ there
 
 abbrev pub AllHas : List ShareFact → Share → Type 0
 AllHas [] share = Unit {0}
@@ -72,7 +72,7 @@ IsHeld held (KeyFor blob app_id tag) = Contains held blob
 IsHeld held (SealedFor blob app_id tag nonce key sealed) = Contains held blob
 IsHeld held (Same a b) = Unit {0}
 IsHeld held (Given key class user birth) = Unit {0}
-IsHeld held (HasKey class) = Unit {0}
+IsHeld held (HasKey class there) = Unit {0}
 
 abbrev pub AreHeld : List Blob → List ShareFact → Type 0
 AreHeld held [] = Unit {0}

@@ -1,6 +1,6 @@
 -- The turns of a user's task over its share of the devices, and what the task has to show of each.
 use Rattle.std.specs.Prelude.{◌⊎◌, ◌≡◌, Bool, true, false, cond, ℕ, ◌+◌, ◌<◌, ◌≤◌, List, [], ◌∷◌, ◌++◌}
-use Rattle.std.specs.Prelude.{length, Option, Some, None, IfSome, IsSome, Contains}
+use Rattle.std.specs.Prelude.{length, Option, Some, None, IfSome, is_some, Contains}
 use Rattle.tree_model.specs.declared.blobs.Blob.{Blob}
 use Rattle.tree_model.specs.declared.places.Class.{Class}
 use Rattle.tree_model.specs.declared.sites.LocalOp.{LocalOp}
@@ -12,7 +12,7 @@ use Rattle.journal_model.specs.Command.{actor_of}
 use Rattle.journal_model.specs.Made.{key_of}
 use Rattle.journal_model.specs.Users.{Record}
 use Rattle.journal_model.specs.Machine.{Running as Began, kind_of_reply, Success, AllowsChange}
-use Rattle.journal_model.specs.Machine.{AllowsSuccess, Installs}
+use Rattle.journal_model.specs.Machine.{AllowsSuccess, Installs, Evicts}
 use Rattle.keystore_model.specs.declared.entry.StoreEntry.{StoreEntry}
 use Rattle.keystore_model.specs.declared.entry.Tag.{Tag}
 use Rattle.keystore_model.specs.Store.{entry_of}
@@ -28,7 +28,7 @@ use Rattle.task_turns.specs.declared.calls.Answer.{Answer}
 use Rattle.task_turns.specs.declared.calls.Answer.TheVariants.{Done, Blob as IsBlob, Sealed, Output}
 use Rattle.task_turns.specs.declared.calls.Call.{Call}
 use Rattle.task_turns.specs.declared.calls.Call.TheVariants.{Op, Sync, List as ListCall, Read}
-use Rattle.task_turns.specs.declared.calls.Call.TheVariants.{Generate, Encrypt, Entries, Add}
+use Rattle.task_turns.specs.declared.calls.Call.TheVariants.{Generate, Encrypt, Entries, Add, Remove}
 use Rattle.task_turns.specs.declared.next.Next.{Next}
 use Rattle.task_turns.specs.declared.next.Next.TheVariants.{Call as CallNext, Work as WorkNext, Reply as ReplyNext}
 use Rattle.task_turns.specs.Names.{Gains, BringsBlob}
@@ -81,6 +81,24 @@ pub record Tasks (T : Type 0) : Type 1 where
   -- whether it asks for a job next
   pub asks : T → Bool
 
+-- a task before a turn: where it rests, which answers it may hear, and where it rests after one
+pub record Seen : Type 1 where
+  pub now : Rest
+  pub hears : Answer → Type 0
+  pub then : Answer → Rest
+  -- whether it asks for a job next, and after an answer
+  pub asks : Bool
+  pub asks_then : Answer → Bool
+
+abbrev pub seen_of : {T : Type 0} → Tasks T → T → Seen
+seen_of tasks task = record {
+  now = tasks.rest_of task;
+  hears = λ answer. tasks.hears task answer;
+  then = λ answer. tasks.rest_of (tasks.after task answer);
+  asks = tasks.asks task;
+  asks_then = λ answer. tasks.asks (tasks.after task answer);
+}
+
 -- what a turn costs: the directories that it makes and removes, and the entries that it makes
 pub record Cost : Type 0 where
   pub makes : ℕ
@@ -97,18 +115,18 @@ cost_of call = no_cost
 
 -- the task hears the answer, and rests in this share then; fewer turns are left, each directory that it removed
 -- counting for one
-pub record Leads {T : Type 0} (tasks : Tasks T) (task : T) (answer : Answer) (scene : Scene)
+pub record Leads (seen : Seen) (answer : Answer) (scene : Scene)
     (note : Option LocalChange) (cost : Cost) (share : Share) : Type 0 where
-  pub hears : tasks.hears task answer
-  pub facts : AllHas (tasks.rest_of (tasks.after task answer)).facts share
+  pub hears : seen.hears answer
+  pub facts : AllHas (seen.then answer).facts share
   pub known :
-      AreHeld (tasks.rest_of (tasks.after task answer)).held (tasks.rest_of (tasks.after task answer)).facts
-  pub serves : (tasks.rest_of (tasks.after task answer)).serves scene.boot
-      (with_note (tasks.rest_of task).user scene.began note)
-  pub same_user : (tasks.rest_of (tasks.after task answer)).user ≡ (tasks.rest_of task).user
-  pub falls : (tasks.rest_of (tasks.after task answer)).left + cost.makes < (tasks.rest_of task).left + cost.takes
-  pub makes : (tasks.rest_of (tasks.after task answer)).makes + cost.makes ≤ (tasks.rest_of task).makes
-  pub draws : (tasks.rest_of (tasks.after task answer)).draws + cost.draws ≤ (tasks.rest_of task).draws
+      AreHeld (seen.then answer).held (seen.then answer).facts
+  pub serves : (seen.then answer).serves scene.boot
+      (with_note seen.now.user scene.began note)
+  pub same_user : (seen.then answer).user ≡ seen.now.user
+  pub falls : (seen.then answer).left + cost.makes < seen.now.left + cost.takes
+  pub makes : (seen.then answer).makes + cost.makes ≤ seen.now.makes
+  pub draws : (seen.then answer).draws + cost.draws ≤ seen.now.draws
 
 -- the share after an operation of its user, with the change that it makes or none; after a sync; and with a last
 -- entry, made at the store's level
@@ -131,48 +149,51 @@ with_entry share blob tag app_id key = record share {
   };
 }
 
--- and with a key of the user's in the ring
+-- and with a key of the user's in the ring, and without it
 abbrev pub with_key : Share → Class → List ℕ → Share
 with_key share class key = record share {
   keys = λ other. cond (same_class other class) (Some key) (share.keys other);
 }
 
+abbrev pub without_key : Share → Class → Share
+without_key share class = record share { keys = λ other. cond (same_class other class) None (share.keys other) }
+
 -- an operation on the task's own user's places may be made and makes the change that it notes; what it makes the
 -- user's directories name was held, and is let go
-pub record OpShows {T : Type 0} (tasks : Tasks T) (task : T) (scene : Scene) (owner : ℕ) (op : LocalOp)
+pub record OpShows (seen : Seen) (scene : Scene) (owner : ℕ) (op : LocalOp)
     (names : Option Blob) (change : Option LocalChange) : Type 0 where
-  pub mine : owner ≡ (tasks.rest_of task).user
-  pub step : StepShows (sealed scene.share.vault) (tasks.rest_of task).user scene.share.own
+  pub mine : owner ≡ seen.now.user
+  pub step : StepShows (sealed scene.share.vault) seen.now.user scene.share.own
       (record { op = op; note = change }) []
   pub brings : BringsBlob (own_view scene.share.own) op names
   pub gains : List Blob
   pub gained : Gains scene.share.own op gains
-  pub lets_go : LetsGo (tasks.rest_of task).held gains (tasks.rest_of (tasks.after task Done)).held
+  pub lets_go : LetsGo seen.now.held gains (seen.then Done).held
   -- it goes on holding all that it held, or nothing
-  pub held : ((tasks.rest_of (tasks.after task Done)).held ≡ (tasks.rest_of task).held)
-      ⊎ ((tasks.rest_of (tasks.after task Done)).held ≡ [])
-  pub leads : Leads tasks task Done scene change (cost_of (Op owner op names)) (operated scene.share op change)
+  pub held : ((seen.then Done).held ≡ seen.now.held)
+      ⊎ ((seen.then Done).held ≡ [])
+  pub leads : Leads seen Done scene change (cost_of (Op owner op names)) (operated scene.share op change)
 
-pub record SyncShows {T : Type 0} (tasks : Tasks T) (task : T) (scene : Scene) (change : Option LocalChange) :
+pub record SyncShows (seen : Seen) (scene : Scene) (change : Option LocalChange) :
     Type 0 where
   pub quiet : change ≡ None
-  pub held : (tasks.rest_of (tasks.after task Done)).held ≡ (tasks.rest_of task).held
-  pub leads : Leads tasks task Done scene None no_cost (synced scene.share)
+  pub held : (seen.then Done).held ≡ seen.now.held
+  pub leads : Leads seen Done scene None no_cost (synced scene.share)
 
 -- with each blob that has no entry, whatever the entry's key
-pub record BlobShows {T : Type 0} (tasks : Tasks T) (task : T) (scene : Scene) (tag : Tag) (app_id : List ℕ)
+pub record BlobShows (seen : Seen) (scene : Scene) (tag : Tag) (app_id : List ℕ)
     (blob : Blob) (key : List ℕ) : Type 0 where
-  pub held : (tasks.rest_of (tasks.after task (IsBlob blob))).held ≡ (tasks.rest_of task).held ++ blob ∷ []
-  pub leads : Leads tasks task (IsBlob blob) scene None (cost_of (Generate tag app_id))
+  pub held : (seen.then (IsBlob blob)).held ≡ seen.now.held ++ blob ∷ []
+  pub leads : Leads seen (IsBlob blob) scene None (cost_of (Generate tag app_id))
       (with_entry scene.share blob tag app_id key)
 
 -- an entry of the user's is made
-pub record GenerateShows {T : Type 0} (tasks : Tasks T) (task : T) (scene : Scene) (tag : Tag) (app_id : List ℕ)
+pub record GenerateShows (seen : Seen) (scene : Scene) (tag : Tag) (app_id : List ℕ)
     (change : Option LocalChange) : Type 0 where
   pub quiet : change ≡ None
-  pub tagged : tag.user ≡ (tasks.rest_of task).user
+  pub tagged : tag.user ≡ seen.now.user
   pub each : (blob : Blob) (key : List ℕ) → length blob ≡ 32 → entry_of scene.share.vault.entries blob ≡ None
-      → BlobShows tasks task scene tag app_id blob key
+      → BlobShows seen scene tag app_id blob key
 
 -- the blob has an entry of this app id at the store's level
 pub record SealsUnder (share : Share) (blob : Blob) (app_id : List ℕ) : Type 0 where
@@ -182,12 +203,12 @@ pub record SealsUnder (share : Share) (blob : Blob) (app_id : List ℕ) : Type 0
   pub current : entry.level ≡ share.vault.level
 
 -- a key is sealed under the blob's entry
-pub record EncryptShows {T : Type 0} (tasks : Tasks T) (task : T) (scene : Scene) (blob : Blob)
+pub record EncryptShows (seen : Seen) (scene : Scene) (blob : Blob)
     (app_id nonce key : List ℕ) : Type 0 where
   pub under : SealsUnder scene.share blob app_id
-  pub held : (tasks.rest_of (tasks.after task (Sealed (sealed_text under.entry.key nonce key)))).held
-      ≡ (tasks.rest_of task).held
-  pub leads : Leads tasks task (Sealed (sealed_text under.entry.key nonce key)) scene None no_cost scene.share
+  pub held : (seen.then (Sealed (sealed_text under.entry.key nonce key))).held
+      ≡ seen.now.held
+  pub leads : Leads seen (Sealed (sealed_text under.entry.key nonce key)) scene None no_cost scene.share
 
 -- the user is there, and the key of this class is the one that the user was given
 pub record IsGiven (share : Share) (user : ℕ) (class : Class) (key : List ℕ) : Type 0 where
@@ -196,45 +217,55 @@ pub record IsGiven (share : Share) (user : ℕ) (class : Class) (key : List ℕ)
   pub given : key ≡ key_of share.vault.seed class user known.birth
 
 -- a key that the task's user was given comes into the ring
-pub record AddShows {T : Type 0} (tasks : Tasks T) (task : T) (scene : Scene) (owner : ℕ) (class : Class)
+pub record AddShows (seen : Seen) (scene : Scene) (owner : ℕ) (class : Class)
     (key : List ℕ) (change : Option LocalChange) : Type 0 where
   pub quiet : change ≡ None
-  pub mine : owner ≡ (tasks.rest_of task).user
-  pub given : IsGiven scene.share (tasks.rest_of task).user class key
-  pub may : Installs scene.began.command (tasks.rest_of task).user class
-  pub held : (tasks.rest_of (tasks.after task Done)).held ≡ (tasks.rest_of task).held
-  pub leads : Leads tasks task Done scene None no_cost (with_key scene.share class key)
+  pub mine : owner ≡ seen.now.user
+  pub given : IsGiven scene.share seen.now.user class key
+  pub may : Installs scene.began.command seen.now.user class
+  pub held : (seen.then Done).held ≡ seen.now.held
+  pub leads : Leads seen Done scene None no_cost (with_key scene.share class key)
+
+-- a key of the task's user leaves the ring
+pub record RemoveShows (seen : Seen) (scene : Scene) (owner : ℕ) (class : Class)
+    (change : Option LocalChange) : Type 0 where
+  pub quiet : change ≡ None
+  pub mine : owner ≡ seen.now.user
+  pub may : Evicts scene.began.command seen.now.user class
+  pub held : (seen.then Done).held ≡ seen.now.held
+  pub leads : Leads seen Done scene None no_cost (without_key scene.share class)
 
 -- the call may be made, keeps every image, and leads to what the task rests on then; a user's task lists and reads
 -- nothing
-abbrev pub CallStands : {T : Type 0} → Tasks T → T → Scene → Call → Option LocalChange → Type 0
-CallStands tasks task scene (Op owner op names) change = OpShows tasks task scene owner op names change
-CallStands tasks task scene Sync change = SyncShows tasks task scene change
-CallStands tasks task scene (Generate tag app_id) change = GenerateShows tasks task scene tag app_id change
-CallStands tasks task scene (Encrypt blob app_id nonce key) change =
-    (change ≡ None) × EncryptShows tasks task scene blob app_id nonce key
-CallStands tasks task scene (Add owner class key) change = AddShows tasks task scene owner class key change
-CallStands tasks task scene ListCall change = ⊥
-CallStands tasks task scene (Read place) change = ⊥
-CallStands tasks task scene Entries change = ⊥
+abbrev pub CallStands : Seen → Scene → Call → Option LocalChange → Type 0
+CallStands seen scene (Op owner op names) change = OpShows seen scene owner op names change
+CallStands seen scene Sync change = SyncShows seen scene change
+CallStands seen scene (Generate tag app_id) change = GenerateShows seen scene tag app_id change
+CallStands seen scene (Encrypt blob app_id nonce key) change =
+    (change ≡ None) × EncryptShows seen scene blob app_id nonce key
+CallStands seen scene (Add owner class key) change = AddShows seen scene owner class key change
+CallStands seen scene (Remove owner class) change = RemoveShows seen scene owner class change
+CallStands seen scene ListCall change = ⊥
+CallStands seen scene (Read place) change = ⊥
+CallStands seen scene Entries change = ⊥
 
 -- what a task has to show of a call that it makes next
-pub record CallShows {T : Type 0} (tasks : Tasks T) (task : T) (scene : Scene) (call : Call)
+pub record CallShows (seen : Seen) (scene : Scene) (call : Call)
     (change : Option LocalChange) : Type 0 where
-  pub stands : CallStands tasks task scene call change
+  pub stands : CallStands seen scene call change
   pub may : IfSome change (λ local.
-      AllowsChange scene.boot scene.began scene.began.command (change_of (tasks.rest_of task).user local))
+      AllowsChange scene.boot scene.began scene.began.command (change_of seen.now.user local))
   -- and where the call fails, it is told so in one more turn
-  pub lasts : 1 < (tasks.rest_of task).left
+  pub lasts : 1 < seen.now.left
 
 -- of a job, whose output it hears in the same turn
-pub record WorkShows {T : Type 0} (tasks : Tasks T) (task : T) (scene : Scene) (job : Job) : Type 0 where
-  pub held : (tasks.rest_of (tasks.after task (Output (output_of job.input)))).held ≡ (tasks.rest_of task).held
-  pub leads : Leads tasks task (Output (output_of job.input)) scene None no_cost scene.share
+pub record WorkShows (seen : Seen) (scene : Scene) (job : Job) : Type 0 where
+  pub held : (seen.then (Output (output_of job.input))).held ≡ seen.now.held
+  pub leads : Leads seen (Output (output_of job.input)) scene None no_cost scene.share
 
--- the user's key of this class is in the ring
-abbrev pub KeyIsIn : ℕ → Share → ℕ → Class → Type 0
-KeyIsIn user share owner class = (owner ≡ user) × IsSome (share.keys class)
+-- whether the user's key of this class is in the ring
+abbrev pub KeyIsIn : ℕ → Share → ℕ → Class → Bool → Type 0
+KeyIsIn user share owner class there = (owner ≡ user) × (is_some (share.keys class) ≡ there)
 
 -- the command did its work, by its user's share
 abbrev pub Succeeds : ℕ → ℕ → Began → Share → Reply → Type 0
@@ -243,26 +274,26 @@ Succeeds user boot began share reply =
     reply
 
 -- and of a reply: it tells that the command did its work, and that it holds no blob
-pub record ReplyShows {T : Type 0} (tasks : Tasks T) (task : T) (scene : Scene) (reply : Reply) : Type 0 where
+pub record ReplyShows (seen : Seen) (scene : Scene) (reply : Reply) : Type 0 where
   pub success : kind_of_reply reply ≡ Success
-  pub may : Succeeds (tasks.rest_of task).user scene.boot scene.began scene.share reply
-  pub lasts : 0 < (tasks.rest_of task).left
-  pub held : (tasks.rest_of task).held ≡ []
+  pub may : Succeeds seen.now.user scene.boot scene.began scene.share reply
+  pub lasts : 0 < seen.now.left
+  pub held : seen.now.held ≡ []
 
 -- a job that a task asks for: it may hear the output, and asks for no further job then
-pub record AsksFor {T : Type 0} (tasks : Tasks T) (task : T) (job : Job) : Type 0 where
-  pub asks : tasks.asks task ≡ true
-  pub hears : tasks.hears task (Output (output_of job.input))
-  pub once : tasks.asks (tasks.after task (Output (output_of job.input))) ≡ false
+pub record AsksFor (seen : Seen) (job : Job) : Type 0 where
+  pub asks : seen.asks ≡ true
+  pub hears : seen.hears (Output (output_of job.input))
+  pub once : seen.asks_then (Output (output_of job.input)) ≡ false
 
 -- a task asks for a job only where it says so
-abbrev pub Asks : {T : Type 0} → Tasks T → T → Next → Type 0
-Asks tasks task (WorkNext job) = AsksFor tasks task job
-Asks tasks task (CallNext call change) = Unit {0}
-Asks tasks task (ReplyNext reply) = Unit {0}
+abbrev pub Asks : Seen → Next → Type 0
+Asks seen (WorkNext job) = AsksFor seen job
+Asks seen (CallNext call change) = Unit {0}
+Asks seen (ReplyNext reply) = Unit {0}
 
 -- what a task has to show of its next turn
-abbrev pub TurnShows : {T : Type 0} → Tasks T → T → Scene → Next → Type 0
-TurnShows tasks task scene (CallNext call change) = CallShows tasks task scene call change
-TurnShows tasks task scene (WorkNext job) = WorkShows tasks task scene job
-TurnShows tasks task scene (ReplyNext reply) = ReplyShows tasks task scene reply
+abbrev pub TurnShows : Seen → Scene → Next → Type 0
+TurnShows seen scene (CallNext call change) = CallShows seen scene call change
+TurnShows seen scene (WorkNext job) = WorkShows seen scene job
+TurnShows seen scene (ReplyNext reply) = ReplyShows seen scene reply

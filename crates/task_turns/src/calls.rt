@@ -38,6 +38,11 @@ pub enum Call {
         class: Class,
         key: [u8; 64],
     },
+    /// The user's key leaves the ring.
+    Remove {
+        user: u32,
+        class: Class,
+    },
 }
 
 /// What a task hears of what it did.

@@ -12,7 +12,7 @@ use Rattle.user_world.specs.declared.changes.LocalChange.TheVariants.{Born}
 use Rattle.task_turns.specs.declared.calls.Answer.{Answer}
 use Rattle.task_turns.specs.declared.calls.Answer.TheVariants.{Output}
 use Rattle.task_turns.specs.declared.next.Next.{Next}
-use Rattle.task_turns.specs.Turns.{Tasks, AsksFor, Asks}
+use Rattle.task_turns.specs.Turns.{seen_of, Tasks, AsksFor, Asks}
 use Rattle.store_task.specs.declared.turns.Doing.{Doing}
 use Rattle.store_task.specs.declared.turns.Doing.TheVariants.{Work, Generate, Encrypt, Tree, Sync}
 use Rattle.store_task.specs.Task.{Task, after as store_after}
@@ -25,9 +25,9 @@ use Rattle.user_tasks.specs.Stores.{op_turn, turn_of, IsStoreTurn}
 
 -- the job of a store task is one of its command's
 module _ {T : Type 0} (tasks : Tasks T) (task : T) (store : Task)
-    (asks : (job : Job) → AsksFirst store job → AsksFor tasks task job) where
+    (asks : (job : Job) → AsksFirst store job → AsksFor (seen_of tasks task) job) where
   op-asks : (user : ℕ) (op : LocalOp) (named : Option Blob) (change : Option LocalChange)
-      → Asks tasks task (op_turn user op named change)
+      → Asks (seen_of tasks task) (op_turn user op named change)
   op-asks user (MakeDir site) named change = tt
   op-asks user (Write site file bytes) named change = tt
   op-asks user (RenameFile site from to) named change = tt
@@ -36,7 +36,7 @@ module _ {T : Type 0} (tasks : Tasks T) (task : T) (store : Task)
   op-asks user (RemoveDir site) named change = tt
 
   doing-asks : (user : ℕ) (doing : Doing) (named : Option Blob) (change : Option LocalChange)
-      → StoreAsks store (Some doing) → Asks tasks task (turn_of user doing named change)
+      → StoreAsks store (Some doing) → Asks (seen_of tasks task) (turn_of user doing named change)
   doing-asks user (Work job) named change first = asks job first
   doing-asks user (Generate tag app_id) named change first = tt
   doing-asks user (Encrypt blob app_id nonce key) named change first = tt
@@ -44,9 +44,9 @@ module _ {T : Type 0} (tasks : Tasks T) (task : T) (store : Task)
   doing-asks user Sync named change first = tt
 
   store-asks : {E : Type 0} (user : ℕ) (change : Option LocalChange) (result : Result Next E)
-      → IfOk result (IsStoreTurn user store change) → IfOk result (Asks tasks task)
+      → IfOk result (IsStoreTurn user store change) → IfOk result (Asks (seen_of tasks task))
   store-asks user change (Ok next) turn =
-      subst (Asks tasks task) (sym turn.is) (doing-asks user turn.doing turn.named change turn.asks)
+      subst (Asks (seen_of tasks task)) (sym turn.is) (doing-asks user turn.doing turn.named change turn.asks)
   store-asks user change (Err fault) turn = tt
 
 module _ (create : Creating) where
@@ -71,36 +71,36 @@ module _ (create : Creating) where
       ap (λ progress. asks_at (after_de progress) (with_de create (store_after create.de (output job)))) is.absent
       ∙ is.once
 
-  clearing-job : (job : Job) → AsksFirst create.ce job → AsksFor creates (staged Clearing) job
+  clearing-job : (job : Job) → AsksFirst create.ce job → AsksFor (seen_of creates (staged Clearing)) job
   clearing-job job first = let is = asked create.ce job first in
       record { asks = is.asks; hears = is.hears; once = ce-once job first }
 
-  ce-job : (job : Job) → AsksFirst create.ce job → AsksFor creates (staged StoringCe) job
+  ce-job : (job : Job) → AsksFirst create.ce job → AsksFor (seen_of creates (staged StoringCe)) job
   ce-job job first = let is = asked create.ce job first in
       record { asks = is.asks; hears = is.hears; once = ce-once job first }
 
-  de-job : (job : Job) → AsksFirst create.de job → AsksFor creates (staged StoringDe) job
+  de-job : (job : Job) → AsksFirst create.de job → AsksFor (seen_of creates (staged StoringDe)) job
   de-job job first = let is = asked create.de job first in
       record { asks = is.asks; hears = is.hears; once = de-once job first }
 
   -- the turns of its store tasks
   module _ {E : Type 0} (result : Result Next E) where
-    at-stage : (stage : Stage) → create.stage ≡ stage → IfOk result (Asks creates (staged stage))
-        → IfOk result (Asks creates create)
-    at-stage stage here asks = subst (λ s. IfOk result (Asks creates (staged s))) (sym here) asks
+    at-stage : (stage : Stage) → create.stage ≡ stage → IfOk result (Asks (seen_of creates (staged stage)))
+        → IfOk result (Asks (seen_of creates create))
+    at-stage stage here asks = subst (λ s. IfOk result (Asks (seen_of creates (staged s)))) (sym here) asks
 
     pub clearing-asks : create.stage ≡ Clearing → IfOk result (IsStoreTurn create.user create.ce None)
-        → IfOk result (Asks creates create)
+        → IfOk result (Asks (seen_of creates create))
     clearing-asks here turn = at-stage Clearing here
         (store-asks creates (staged Clearing) create.ce clearing-job create.user None result turn)
 
     pub ce-asks : create.stage ≡ StoringCe → IfOk result (IsStoreTurn create.user create.ce None)
-        → IfOk result (Asks creates create)
+        → IfOk result (Asks (seen_of creates create))
     ce-asks here turn = at-stage StoringCe here
         (store-asks creates (staged StoringCe) create.ce ce-job create.user None result turn)
 
     pub de-asks : create.stage ≡ StoringDe
         → IfOk result (IsStoreTurn create.user create.de (Some (Born create.birth)))
-        → IfOk result (Asks creates create)
+        → IfOk result (Asks (seen_of creates create))
     de-asks here turn = at-stage StoringDe here
         (store-asks creates (staged StoringDe) create.de de-job create.user (Some (Born create.birth)) result turn)

@@ -14,6 +14,7 @@ use Rattle.user_world.specs.OwnWorlds.{own_record}
 use Rattle.store_task.specs.declared.turns.StoreSpec.{StoreSpec}
 use Rattle.store_task.specs.declared.stages.Stage.TheVariants.{First}
 use Rattle.user_tasks.specs.declared.creates.Stage.TheVariants.{Clearing}
+use Rattle.user_tasks.specs.declared.tasks.UserTask.TheVariants.{Create as OfCreate}
 use Rattle.user_tasks.specs.Create.{Creating}
 use Rattle.user_tasks.specs.Made.{IsMadeSpec, IsFirst}
 use Rattle.user_tasks.specs.Tasks.{Begins}
@@ -47,14 +48,14 @@ module _ (user : ℕ) (birth : Birth) (boot_seed : List ℕ) (ce_spec de_spec : 
   }
 
   create-begins : IsMadeSpec user birth ForCe boot_seed ce_spec → IsMadeSpec user birth ForDe boot_seed de_spec
-      → Begins (CreateCommand user) birth boot_seed first_create
+      → Begins (CreateCommand user) birth boot_seed (OfCreate first_create)
   create-begins ce_made de_made = record {
     owned = refl;
     few = omega arith;
     makes = omega arith;
     draws = omega arith;
     held = refl;
-    rests = λ facts share present accepted seeded. record {
+    rests = λ facts share present installed accepted seeded. record {
       of_user = refl;
       accepted = refl;
       serves = record { command = refl; born = refl; changes = refl };
@@ -72,9 +73,9 @@ module _ (user : ℕ) (birth : Birth) (boot_seed : List ℕ) (ce_spec de_spec : 
 
 -- as it is made
 pub first-begins : (user : ℕ) (birth : Birth) (number : ℕ) (boot_seed : List ℕ) (create : Creating)
-    → IsFirst user birth number boot_seed create → Begins (CreateCommand user) birth boot_seed create
+    → IsFirst user birth number boot_seed create → Begins (CreateCommand user) birth boot_seed (OfCreate create)
 first-begins user birth number boot_seed create first =
-    subst (Begins (CreateCommand user) birth boot_seed) (sym same)
+    subst (λ it. Begins (CreateCommand user) birth boot_seed (OfCreate it)) (sym same)
     (create-begins user birth boot_seed create.ce.spec create.de.spec create.ce.job create.de.job first.ce.made
     first.de.made)
   where

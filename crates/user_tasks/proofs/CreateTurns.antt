@@ -23,12 +23,12 @@ use Rattle.key_directory.specs.Vaults.{sealed}
 use Rattle.task_turns.specs.declared.calls.Answer.{Answer}
 use Rattle.task_turns.specs.declared.calls.Answer.TheVariants.{Done, Blob as IsBlob, Sealed, Output}
 use Rattle.task_turns.specs.declared.calls.Call.TheVariants.{Op as OpCall, Sync as SyncCall, List as ListCall, Read}
-use Rattle.task_turns.specs.declared.calls.Call.TheVariants.{Generate, Encrypt, Entries, Add}
+use Rattle.task_turns.specs.declared.calls.Call.TheVariants.{Generate, Encrypt, Entries, Add, Remove}
 use Rattle.task_turns.specs.declared.next.Next.{Next}
 use Rattle.task_turns.specs.declared.next.Next.TheVariants.{Call as CallNext, Work as WorkNext, Reply as ReplyNext}
 use Rattle.task_turns.specs.Names.{Gains}
 use Rattle.task_turns.specs.Shares.{Share, Has, AllHas, IsHeld}
-use Rattle.task_turns.specs.Turns.{Scene, Cost, Leads, TurnShows, CallShows}
+use Rattle.task_turns.specs.Turns.{seen_of, Scene, Cost, Leads, TurnShows, CallShows}
 use Rattle.store_task.specs.declared.turns.StoreSpec.{StoreSpec}
 use Rattle.store_task.specs.declared.stages.Stage.{Stage as StoreStage}
 use Rattle.store_task.specs.declared.stages.Stage.TheVariants.{First, Tied, Generated, Storing}
@@ -53,6 +53,7 @@ use Rattle.user_tasks.proofs.AsideOps.{aside-step, aside-gains, debris-gains}
 use Rattle.user_tasks.proofs.Placing.{IsWritten, written-at, ce-put, de-put}
 use Rattle.user_tasks.proofs.Whole.{same-parts}
 use Rattle.user_tasks.proofs.Writing.{leads-to, IsFramed, store-has, framed-shows}
+use Rattle.user_tasks.specs.declared.tasks.UserTask.TheVariants.{Create as OfCreate}
 
 -- the stage stays where the directory isn't at its place
 ce-goes_on : (progress : Progress) → progress ≢ Stored → after_ce progress ≡ StoringCe
@@ -130,7 +131,8 @@ module _ (user : ℕ) (birth : Birth) where
       → AllHas (create_rest (at user birth ce de StoringCe)).facts scene.share
       → Stores user ForDe (DePlace user) de → IsCreate user birth StoringCe scene.boot scene.began
       → TreeShows ce scene.share (RenameDir Temp (Ce Current)) → held_by named ≡ held_of ce
-      → CallShows creates (at user birth ce de StoringCe) scene (OpCall user (RenameDir Temp (Ce Current)) named) None
+      → CallShows (seen_of creates (at user birth ce de StoringCe)) scene
+      (OpCall user (RenameDir Temp (Ce Current)) named) None
 
   puts-ce : (ce de : Task) → IsWritten ce Settled → de.stage ≡ First → PutsCe ce de
   puts-ce ce de written first =
@@ -147,7 +149,7 @@ module _ (user : ℕ) (birth : Birth) where
       → Stores user ForCe (CePlace user Current) ce → Stores user ForDe (DePlace user) de
       → IsCreate user birth StoringDe scene.boot scene.began
       → TreeShows de scene.share (RenameDir Temp De) → held_by named ≡ held_of de
-      → CallShows creates (at user birth ce de StoringDe) scene (OpCall user (RenameDir Temp De) named)
+      → CallShows (seen_of creates (at user birth ce de StoringDe)) scene (OpCall user (RenameDir Temp De) named)
       (Some (Born birth))
 
   puts-de : (ce de : Task) → IsWritten ce Stored → IsWritten de Settled → PutsDe ce de
@@ -166,21 +168,22 @@ module _ (user : ℕ) (birth : Birth) (ce de : Task) (ce_stores : Stores user Fo
       (serves : IsCreate user birth StoringCe scene.boot scene.began) where
     ce-placed : (named : Option Blob) → held_by named ≡ held_of ce → (op : LocalOp) → TreeShows ce scene.share op
         → PutsInPlace ce op
-        → TurnShows creates (at user birth ce de StoringCe) scene (op_turn user op named None)
+        → TurnShows (seen_of creates (at user birth ce de StoringCe)) scene (op_turn user op named None)
     ce-placed named holds op shows puts =
         let is : op ≡ RenameDir Temp (Ce Current) =
         puts.renames ∙ ap (λ place. RenameDir Temp (site_of place)) ce_stores.placed in
-        subst (λ o. TurnShows creates (at user birth ce de StoringCe) scene (op_turn user o named None)) (sym is)
+        subst (λ o. TurnShows (seen_of creates (at user birth ce de StoringCe)) scene (op_turn user o named None))
+        (sym is)
         (puts-ce user birth ce de
         (written-at ce.spec ce.job ce.stage Settled ce_stores.whole ce_stores.bare (λ e. cc) puts.synced) first scene
         named has de_stores serves (subst (TreeShows ce scene.share) is shows) holds)
 
     ce-shows : (next : Next) → IsStoreTurn user ce None next
-        → TurnShows creates (at user birth ce de StoringCe) scene next
+        → TurnShows (seen_of creates (at user birth ce de StoringCe)) scene next
     ce-shows next turn =
         let framed = ce-framed user birth ce de ce_stores in
         let frame = ce_frame (at user birth ce de StoringCe) in
-        subst (TurnShows creates (at user birth ce de StoringCe) scene) (sym turn.is)
+        subst (TurnShows (seen_of creates (at user birth ce de StoringCe)) scene) (sym turn.is)
         (framed-shows creates (at user birth ce de StoringCe) frame ce framed scene has serves turn.doing turn.named
         None turn.shows.0
         (turn.shows.1 scene.share
@@ -193,11 +196,11 @@ module _ (user : ℕ) (birth : Birth) (ce de : Task) (ce_stores : Stores user Fo
       (serves : IsCreate user birth StoringDe scene.boot scene.began) where
     de-placed : (named : Option Blob) → held_by named ≡ held_of de → (op : LocalOp) → TreeShows de scene.share op
         → PutsInPlace de op
-        → TurnShows creates (at user birth ce de StoringDe) scene (op_turn user op named (Some (Born birth)))
+        → TurnShows (seen_of creates (at user birth ce de StoringDe)) scene (op_turn user op named (Some (Born birth)))
     de-placed named holds op shows puts =
         let is : op ≡ RenameDir Temp De =
         puts.renames ∙ ap (λ place. RenameDir Temp (site_of place)) de_stores.placed in
-        subst (λ o. TurnShows creates (at user birth ce de StoringDe) scene
+        subst (λ o. TurnShows (seen_of creates (at user birth ce de StoringDe)) scene
         (op_turn user o named (Some (Born birth)))) (sym is)
         (puts-de user birth ce de
         (written-at ce.spec ce.job ce.stage Stored ce_stores.whole ce_stores.bare (λ e. cc) stored)
@@ -205,11 +208,11 @@ module _ (user : ℕ) (birth : Birth) (ce de : Task) (ce_stores : Stores user Fo
         has ce_stores de_stores serves (subst (TreeShows de scene.share) is shows) holds)
 
     de-shows : (next : Next) → IsStoreTurn user de (Some (Born birth)) next
-        → TurnShows creates (at user birth ce de StoringDe) scene next
+        → TurnShows (seen_of creates (at user birth ce de StoringDe)) scene next
     de-shows next turn =
         let framed = de-framed user birth ce de de_stores in
         let frame = de_frame (at user birth ce de StoringDe) in
-        subst (TurnShows creates (at user birth ce de StoringDe) scene) (sym turn.is)
+        subst (TurnShows (seen_of creates (at user birth ce de StoringDe)) scene) (sym turn.is)
         (framed-shows creates (at user birth ce de StoringDe) frame de framed scene has serves turn.doing turn.named
         (Some (Born birth)) turn.shows.0
         (turn.shows.1 scene.share
@@ -221,8 +224,8 @@ module _ (user : ℕ) (birth : Birth) (ce de : Task) (scene : Scene) where
   leads-cleared : (answer : Answer) (note : Option LocalChange) (cost : Cost) (share : Share)
       → hears (at user birth ce de Clearing) answer
       → after (at user birth ce de Clearing) answer ≡ after (at user birth ce de StoringCe) answer
-      → Leads creates (at user birth ce de StoringCe) answer scene note cost share
-      → Leads creates (at user birth ce de Clearing) answer scene note cost share
+      → Leads (seen_of creates (at user birth ce de StoringCe)) answer scene note cost share
+      → Leads (seen_of creates (at user birth ce de Clearing)) answer scene note cost share
   leads-cleared answer note cost share heard same leads =
       leads-to creates (at user birth ce de Clearing) answer heard refl (ap create_rest same)
       (record {
@@ -242,8 +245,8 @@ module _ (user : ℕ) (birth : Birth) (ce de : Task) (scene : Scene) where
     none-held : (gains : List Blob) → held_of ce ++ gains ≡ gains
     none-held gains = ap (λ stage. held_at stage ++ gains) first
 
-    as-cleared : (next : Next) → TurnShows creates (at user birth ce de StoringCe) scene next
-        → TurnShows creates (at user birth ce de Clearing) scene next
+    as-cleared : (next : Next) → TurnShows (seen_of creates (at user birth ce de StoringCe)) scene next
+        → TurnShows (seen_of creates (at user birth ce de Clearing)) scene next
     as-cleared (CallNext (OpCall owner op names) change) shows = absurd (not-done shows.stands.leads.hears)
     as-cleared (CallNext SyncCall change) shows = absurd (not-done shows.stands.leads.hears)
     as-cleared (CallNext ListCall change) shows = absurd shows.stands
@@ -275,6 +278,7 @@ module _ (user : ℕ) (birth : Birth) (ce de : Task) (scene : Scene) where
     }
     as-cleared (CallNext Entries change) shows = absurd shows.stands
     as-cleared (CallNext (Add owner class key) change) shows = absurd (not-done shows.stands.leads.hears)
+    as-cleared (CallNext (Remove owner class) change) shows = absurd (not-done shows.stands.leads.hears)
     as-cleared (WorkNext job) shows = record {
       held = shows.held ∙ ap held_at first;
       leads = leads-cleared (Output _) None _ _ shows.leads.hears refl shows.leads;
@@ -294,9 +298,9 @@ module _ (create : Creating) (is : IsCreating create) (way : Option Site) where
   abbrev pub staged : Stage → Creating
   staged stage = record create { stage = stage }
 
-  pub at-stage : (stage : Stage) (next : Next) → create.stage ≡ stage → UserTurns (staged stage) way next
-      → UserTurns create way next
-  at-stage stage next here turns = subst (λ s. UserTurns (staged s) way next) (sym here) turns
+  pub at-stage : (stage : Stage) (next : Next) → create.stage ≡ stage → UserTurns (OfCreate (staged stage)) way next
+      → UserTurns (OfCreate create) way next
+  at-stage stage next here turns = subst (λ s. UserTurns (OfCreate (staged s)) way next) (sym here) turns
 
   pub stage-fits : (stage : Stage) → create.stage ≡ stage → IsStage create.ce create.de stage
   stage-fits stage here = subst (IsStage create.ce create.de) here is.stage
@@ -327,7 +331,7 @@ module _ (create : Creating) (is : IsCreating create) (way : Option Site) where
 
     clear-shows : (site : Site) → IsNextToClear (own_view scene.share.own) (Some site)
         → IsCreate create.user create.birth Clearing scene.boot scene.began
-        → CallShows creates (staged Clearing) scene (OpCall create.user (RemoveDir site) None) None
+        → CallShows (seen_of creates (staged Clearing)) scene (OpCall create.user (RemoveDir site) None) None
     clear-shows site clear serves = record {
       stands = record {
         mine = refl;
@@ -384,14 +388,14 @@ module _ (create : Creating) (is : IsCreating create) (way : Option Site) where
 
   pub clear-turn : (site : Site) (next : Next) → create.stage ≡ Clearing → way ≡ Some site
       → next ≡ CallNext (OpCall create.user (RemoveDir site) None) None
-      → UserTurns create way next
+      → UserTurns (OfCreate create) way next
   clear-turn site next here first named = at-stage Clearing next here
-      (λ scene images clear rests. subst (TurnShows creates (staged Clearing) scene) (sym named)
+      (λ scene images clear rests. subst (TurnShows (seen_of creates (staged Clearing)) scene) (sym named)
       (clear-shows scene images rests.facts site (subst (IsNextToClear (own_view scene.share.own)) first clear)
       rests.serves))
 
   pub begin-turn : (next : Next) → create.stage ≡ Clearing → way ≡ None → IsStoreTurn create.user create.ce None next
-      → UserTurns create way next
+      → UserTurns (OfCreate create) way next
   begin-turn next here nothing turn = at-stage Clearing next here
       (λ scene images clear rests.
       let stages = stage-fits Clearing here in
@@ -401,7 +405,7 @@ module _ (create : Creating) (is : IsCreating create) (way : Option Site) where
       (record { command = rests.serves.command; born = rests.serves.born; changes = rests.serves.changes }) next turn))
 
   pub ce-turn : (next : Next) → create.stage ≡ StoringCe → IsStoreTurn create.user create.ce None next
-      → UserTurns create way next
+      → UserTurns (OfCreate create) way next
   ce-turn next here turn = at-stage StoringCe next here
       (λ scene images clear rests.
       ce-shows create.user create.birth create.ce create.de is.ce is.de scene (stage-fits StoringCe here).1 rests.facts
@@ -409,7 +413,7 @@ module _ (create : Creating) (is : IsCreating create) (way : Option Site) where
 
   pub de-turn : (next : Next) → create.stage ≡ StoringDe
       → IsStoreTurn create.user create.de (Some (Born create.birth)) next
-      → UserTurns create way next
+      → UserTurns (OfCreate create) way next
   de-turn next here turn = at-stage StoringDe next here
       (λ scene images clear rests.
       de-shows create.user create.birth create.ce create.de is.ce is.de scene (stage-fits StoringDe here).0 rests.facts

@@ -21,6 +21,7 @@ use Rattle.user_tasks.specs.Create.{Creating, IsCreating, IsCreate, new_record, 
 use Rattle.user_tasks.specs.Tasks.{UserTurns}
 use Rattle.user_tasks.proofs.CreateTurns.{at-stage}
 use Rattle.user_tasks.proofs.Writing.{leads-to}
+use Rattle.user_tasks.specs.declared.tasks.UserTask.TheVariants.{Create as OfCreate}
 
 module _ (create : Creating) where
   abbrev staged : Stage → Creating
@@ -36,8 +37,9 @@ module _ (create : Creating) where
 
 module _ (create : Creating) (is : IsCreating create) (way : Option Site) where
   -- the sync behind the last rename
-  pub sync-turn : (next : Next) → create.stage ≡ Created → next ≡ CallNext Sync None → UserTurns create way next
-  sync-turn next here named = subst (UserTurns create way) (sym named)
+  pub sync-turn : (next : Next) → create.stage ≡ Created → next ≡ CallNext Sync None
+      → UserTurns (OfCreate create) way next
+  sync-turn next here named = subst (UserTurns (OfCreate create) way) (sym named)
       (at-stage create is way Created (CallNext Sync None) here
       (λ scene images clear rests.
       let lasting = later-facts (Logged (Born create.birth) ∷ Knows (Some (new_record create.birth)) ∷ [])
@@ -65,8 +67,8 @@ module _ (create : Creating) (is : IsCreating create) (way : Option Site) where
   -- the device key comes into the ring
   pub de-installed : (next : Next) → create.stage ≡ InstallingDe
       → next ≡ CallNext (Add create.user ForDe create.de.spec.key) None
-      → UserTurns create way next
-  de-installed next here named = subst (UserTurns create way) (sym named)
+      → UserTurns (OfCreate create) way next
+  de-installed next here named = subst (UserTurns (OfCreate create) way) (sym named)
       (at-stage create is way InstallingDe (CallNext (Add create.user ForDe create.de.spec.key) None) here
       (λ scene images clear rests. record {
         stands = record {
@@ -98,8 +100,8 @@ module _ (create : Creating) (is : IsCreating create) (way : Option Site) where
   -- and then the credential key
   pub ce-installed : (next : Next) → create.stage ≡ InstallingCe
       → next ≡ CallNext (Add create.user ForCe create.ce.spec.key) None
-      → UserTurns create way next
-  ce-installed next here named = subst (UserTurns create way) (sym named)
+      → UserTurns (OfCreate create) way next
+  ce-installed next here named = subst (UserTurns (OfCreate create) way) (sym named)
       (at-stage create is way InstallingCe (CallNext (Add create.user ForCe create.ce.spec.key) None) here
       (λ scene images clear rests. record {
         stands = record {
@@ -123,7 +125,7 @@ module _ (create : Creating) (is : IsCreating create) (way : Option Site) where
       }))
 
   -- both keys are usable when it is told so
-  pub reply-turn : create.stage ≡ Ended → UserTurns create way (ReplyNext DoneReply)
+  pub reply-turn : create.stage ≡ Ended → UserTurns (OfCreate create) way (ReplyNext DoneReply)
   reply-turn here = at-stage create is way Ended (ReplyNext DoneReply) here
       (λ scene images clear rests. record {
         success = refl;

@@ -23,6 +23,7 @@ use Rattle.user_tasks.specs.Create.{Creating, IsCreating}
 use Rattle.user_tasks.specs.Stores.{turn_of, op_turn, IsStoreTurn}
 use Rattle.user_tasks.specs.Tasks.{IsNumbered, UserJobs}
 use Rattle.user_tasks.proofs.CreateTurns.{stage-fits, begun-has}
+use Rattle.user_tasks.specs.declared.tasks.UserTask.TheVariants.{Create as OfCreate}
 
 -- a job of the turn has this number
 abbrev IsJob : ℕ → Next → Type 0
@@ -54,30 +55,31 @@ module _ (user : ℕ) (store : Task) (change : Option LocalChange) (share : Shar
       subst (IsJob store.job) (sym turn.is) (doing-job turn.doing turn.named (turn.shows.1 share has))
 
 -- it is one of the create's
-ce-job : (create : Creating) (next : Next) → IsJob create.ce.job next → IsNumbered create next
+ce-job : (create : Creating) (next : Next) → IsJob create.ce.job next → IsNumbered (OfCreate create) next
 ce-job create (WorkNext job) is = inl is
 ce-job create (CallNext call change) is = tt
 ce-job create (ReplyNext reply) is = tt
 
-de-job : (create : Creating) (next : Next) → IsJob create.de.job next → IsNumbered create next
+de-job : (create : Creating) (next : Next) → IsJob create.de.job next → IsNumbered (OfCreate create) next
 de-job create (WorkNext job) is = inr is
 de-job create (CallNext call change) is = tt
 de-job create (ReplyNext reply) is = tt
 
 pub call-jobs : (create : Creating) (way : Option Site) (next : Next) (call : Call) (change : Option LocalChange)
-    → next ≡ CallNext call change → UserJobs create way next
+    → next ≡ CallNext call change → UserJobs (OfCreate create) way next
 call-jobs create way next call change named =
-    subst (UserJobs create way) (sym named) (λ scene images clear rests. tt)
+    subst (UserJobs (OfCreate create) way) (sym named) (λ scene images clear rests. tt)
 
 module _ (create : Creating) (is : IsCreating create) (way : Option Site) where
   at-stage : (stage : Stage) (next : Next) → create.stage ≡ stage
-      → UserJobs (record create { stage = stage }) way next
-      → UserJobs create way next
-  at-stage stage next here jobs = subst (λ s. UserJobs (record create { stage = s }) way next) (sym here) jobs
+      → UserJobs (OfCreate (record create { stage = stage })) way next
+      → UserJobs (OfCreate create) way next
+  at-stage stage next here jobs =
+      subst (λ s. UserJobs (OfCreate (record create { stage = s })) way next) (sym here) jobs
 
   pub begin-jobs : (next : Next) → create.stage ≡ Clearing → way ≡ None
       → IsStoreTurn create.user create.ce None next
-      → UserJobs create way next
+      → UserJobs (OfCreate create) way next
   begin-jobs next here nothing turn = at-stage Clearing next here
       (λ scene images clear rests.
       let has = begun-has create is way scene images rests.facts (stage-fits create is way Clearing here).0
@@ -85,14 +87,14 @@ module _ (create : Creating) (is : IsCreating create) (way : Option Site) where
       ce-job create next (store-job create.user create.ce None scene.share next has.1.1.1.1 turn))
 
   pub ce-jobs : (next : Next) → create.stage ≡ StoringCe → IsStoreTurn create.user create.ce None next
-      → UserJobs create way next
+      → UserJobs (OfCreate create) way next
   ce-jobs next here turn = at-stage StoringCe next here
       (λ scene images clear rests.
       ce-job create next (store-job create.user create.ce None scene.share next rests.facts.1.1.1.1 turn))
 
   pub de-jobs : (change : Option LocalChange) (next : Next) → create.stage ≡ StoringDe
       → IsStoreTurn create.user create.de change next
-      → UserJobs create way next
+      → UserJobs (OfCreate create) way next
   de-jobs change next here turn = at-stage StoringDe next here
       (λ scene images clear rests.
       de-job create next (store-job create.user create.de change scene.share next rests.facts.1.1.1.1.1 turn))

@@ -7,5 +7,6 @@ mod CreateTurns
 mod Installing
 mod AskedJobs
 mod JobNumbers
+mod LockTurns
 mod Begun
 mod Refuted

@@ -27,7 +27,7 @@ use Rattle.task_turns.specs.declared.calls.Answer.TheVariants.{Done}
 use Rattle.task_turns.specs.declared.calls.Call.TheVariants.{Op as OpCall}
 use Rattle.task_turns.specs.Names.{BringsBlob}
 use Rattle.task_turns.specs.Shares.{Share, AllHas}
-use Rattle.task_turns.specs.Turns.{Scene, operated, CallShows}
+use Rattle.task_turns.specs.Turns.{seen_of, Scene, operated, CallShows}
 use Rattle.store_task.specs.declared.turns.StoreSpec.{StoreSpec}
 use Rattle.store_task.specs.declared.stages.Stage.{Stage as StoreStage}
 use Rattle.store_task.specs.declared.stages.Stage.TheVariants.{First, Tied, Generated, Storing}
@@ -110,7 +110,7 @@ module _ (user : ℕ) (birth : Birth) (ce_spec de_spec : StoreSpec) (ce_job de_j
           → IsCreate user birth StoringCe scene.boot scene.began
           → TreeShows (stored_ce blob text Settled) scene.share put_ce → held_by named ≡ blob ∷ []
           → length blob ≡ 32
-          → CallShows creates putting_ce scene (OpCall user put_ce named) None
+          → CallShows (seen_of creates putting_ce) scene (OpCall user put_ce named) None
       ce-put named stores serves shows holds long = record {
         stands = record {
           mine = refl;
@@ -216,7 +216,7 @@ module _ (user : ℕ) (birth : Birth) (ce_spec de_spec : StoreSpec) (ce_job de_j
       -- the user is there then, and both blobs are let go
       pub de-put : (named : Option Blob) → IsCreate user birth StoringDe scene.boot scene.began
           → TreeShows settled_de scene.share put_de → held_by named ≡ de_blob ∷ []
-          → CallShows creates putting_de scene (OpCall user put_de named) (Some (Born birth))
+          → CallShows (seen_of creates putting_de) scene (OpCall user put_de named) (Some (Born birth))
       de-put named serves shows holds = record {
         stands = record {
           mine = refl;

@@ -26,7 +26,7 @@ use Rattle.task_turns.specs.declared.calls.Answer.TheVariants.{Done, Blob as IsB
 use Rattle.task_turns.specs.declared.calls.Call.TheVariants.{Op as OpCall, Sync as SyncCall}
 use Rattle.task_turns.specs.Shares.{Share, ShareFact, AllHas, LaterShare, IsHeld, AreHeld}
 use Rattle.task_turns.specs.Shares.{Own, KeyFor, SealedFor, Same, Given, HasKey}
-use Rattle.task_turns.specs.Turns.{Rest, Tasks, Scene, Cost, no_cost, operated, synced, with_entry, Leads}
+use Rattle.task_turns.specs.Turns.{seen_of, Rest, Tasks, Scene, Cost, no_cost, operated, synced, with_entry, Leads}
 use Rattle.task_turns.specs.Turns.{CallShows, GenerateShows, EncryptShows, WorkShows, TurnShows}
 use Rattle.task_turns.proofs.Lasting.{facts-last}
 use Rattle.store_task.specs.declared.stages.Stage.{Stage}
@@ -70,7 +70,7 @@ held-fact held more among (KeyFor blob app_id tag) is = among blob is
 held-fact held more among (SealedFor blob app_id tag nonce key text) is = among blob is
 held-fact held more among (Same a b) is = tt
 held-fact held more among (Given key class user birth) is = tt
-held-fact held more among (HasKey class) is = tt
+held-fact held more among (HasKey class there) is = tt
 
 held-more : (held more : List Blob) → ((blob : Blob) → Contains held blob → Contains more blob)
     → (facts : List ShareFact) → AreHeld held facts → AreHeld more facts
@@ -198,7 +198,7 @@ pub leads-to : {T : Type 0} (tasks : Tasks T) (task : T) (answer : Answer) {scen
     {note : Option LocalChange} {cost : Cost} {share : Share} → tasks.hears task answer
     → tasks.rest_of task ≡ rest → tasks.rest_of (tasks.after task answer) ≡ then
     → LeadsTo scene rest then note cost share
-    → Leads tasks task answer scene note cost share
+    → Leads (seen_of tasks task) answer scene note cost share
 leads-to tasks task answer {scene} {rest} {then} {note} {cost} {share} hears is next to =
     let led = subst (λ r. LeadsTo scene r (tasks.rest_of (tasks.after task answer)) note cost share) (sym is)
     (subst (λ r. LeadsTo scene rest r note cost share) (sym next) to) in record {
@@ -261,7 +261,7 @@ module _ {T : Type 0} (tasks : Tasks T) (task : T) (frame : Frame) (store : Task
     draws : draws_of (store_after store answer) + cost.draws ≤ draws_of store
 
   goes-leads : (answer : Answer) (cost : Cost) (share : Share) → GoesOn answer cost share
-      → Leads tasks task answer scene None cost share
+      → Leads (seen_of tasks task) answer scene None cost share
   goes-leads answer cost share goes =
       leads-to tasks task answer (framed.hears answer goes.leads.answers) framed.rests
       (framed.goes_on answer goes.leads.answers goes.on)
@@ -310,7 +310,7 @@ module _ {T : Type 0} (tasks : Tasks T) (task : T) (frame : Frame) (store : Task
         let same : makes_of (store_after store answer) ≡ makes_of store =
         ap makes_in (prepares.then_absent ∙ sym prepares.absent) in omega (arith, same)
 
-  work-shows : (job : Job) → StoreWork store scene.share job → WorkShows tasks task scene job
+  work-shows : (job : Job) → StoreWork store scene.share job → WorkShows (seen_of tasks task) scene job
   work-shows job shows =
       let answer = Output (output_of job.input) in
       let prepares = after-output store.spec.discard store.spec.secret store.stage (output_of job.input)
@@ -328,7 +328,7 @@ module _ {T : Type 0} (tasks : Tasks T) (task : T) (frame : Frame) (store : Task
       }
 
   generate-shows : (tag : Tag) (app_id : List ℕ) → StoreGenerate store scene.share tag app_id
-      → GenerateShows tasks task scene tag app_id None
+      → GenerateShows (seen_of tasks task) scene tag app_id None
   generate-shows tag app_id shows = record {
     quiet = refl;
     tagged = ap (λ (t : Tag). t.user) shows.tagged ∙ framed.owner ∙ ap (λ (rest : Rest). rest.user) (sym framed.rests);
@@ -349,7 +349,7 @@ module _ {T : Type 0} (tasks : Tasks T) (task : T) (frame : Frame) (store : Task
   }
 
   encrypt-shows : (blob : Blob) (app_id nonce key : List ℕ) → StoreEncrypt store scene.share blob app_id nonce key
-      → EncryptShows tasks task scene blob app_id nonce key
+      → EncryptShows (seen_of tasks task) scene blob app_id nonce key
   encrypt-shows blob app_id nonce key shows =
       let answers = shows.leads.answers in
       let prepares = after-sealed store.spec.discard store.spec.secret store.stage _ answers in
@@ -372,7 +372,7 @@ module _ {T : Type 0} (tasks : Tasks T) (task : T) (frame : Frame) (store : Task
       }
 
   aside-shows : left_of store ≢ 0 → (op : LocalOp) → TreeShows store scene.share op → StaysAside store op
-      → CallShows tasks task scene (OpCall frame.user op None) None
+      → CallShows (seen_of tasks task) scene (OpCall frame.user op None) None
   aside-shows unended op shows aside =
       let leads = shows.leads None in
       let same = done-held store.spec.discard store.spec.secret store.stage leads.answers in record {
@@ -401,7 +401,7 @@ module _ {T : Type 0} (tasks : Tasks T) (task : T) (frame : Frame) (store : Task
         lasts = lasts unended;
       }
 
-  sync-shows : left_of store ≢ 0 → StoreSync store scene.share → CallShows tasks task scene SyncCall None
+  sync-shows : left_of store ≢ 0 → StoreSync store scene.share → CallShows (seen_of tasks task) scene SyncCall None
   sync-shows unended shows =
       let leads = shows.leads in
       let on = settled-goes_on _ shows.settles in
@@ -431,8 +431,8 @@ module _ {T : Type 0} (tasks : Tasks T) (task : T) (frame : Frame) (store : Task
   pub framed-shows : (doing : Doing) (named : Option Blob) (change : Option LocalChange) → left_of store ≢ 0
       → DoingShows store scene.share doing
       → ((op : LocalOp) → TreeShows store scene.share op → PutsInPlace store op
-      → TurnShows tasks task scene (op_turn frame.user op named change))
-      → TurnShows tasks task scene (turn_of frame.user doing named change)
+      → TurnShows (seen_of tasks task) scene (op_turn frame.user op named change))
+      → TurnShows (seen_of tasks task) scene (turn_of frame.user doing named change)
   framed-shows (Work job) named change unended shows placed = work-shows job shows
   framed-shows (Generate tag app_id) named change unended shows placed = record {
     stands = generate-shows tag app_id shows;
@@ -445,7 +445,7 @@ module _ {T : Type 0} (tasks : Tasks T) (task : T) (frame : Frame) (store : Task
     lasts = lasts unended;
   }
   framed-shows (Tree op) named change unended shows placed = elim shows.owned [
-    | inl aside ↦ subst (TurnShows tasks task scene)
+    | inl aside ↦ subst (TurnShows (seen_of tasks task) scene)
         (sym (aside-turn (own_view scene.share.own) frame.user op named change aside.apart shows.fits))
         (aside-shows unended op shows aside)
     | inr puts ↦ placed op shows puts

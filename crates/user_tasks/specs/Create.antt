@@ -1,5 +1,5 @@
 -- A create as a task over its user's share of the devices: the facts that each stage rests on.
-use Rattle.std.specs.Prelude.{◌≡◌, ◌≢◌, Bool, false, ℕ, ◌+◌, List, [], ◌∷◌, ◌++◌, Option, Some, None}
+use Rattle.std.specs.Prelude.{◌≡◌, ◌≢◌, Bool, true, false, ℕ, ◌+◌, List, [], ◌∷◌, ◌++◌, Option, Some, None}
 use Rattle.tree_model.specs.declared.blobs.Blob.{Blob}
 use Rattle.tree_model.specs.declared.places.Class.{Class}
 use Rattle.tree_model.specs.declared.places.Class.TheVariants.{De as ForDe, Ce as ForCe}
@@ -158,9 +158,9 @@ rest_at StoringDe create = rest_in (de_frame create) create.de
 rest_at Created create = rest_with Created create (with_user create []) 4
 rest_at InstallingDe create = rest_with InstallingDe create (with_user create (Own Durable ∷ [])) 3
 rest_at InstallingCe create =
-    rest_with InstallingCe create (with_user create (Own Durable ∷ HasKey ForDe ∷ [])) 2
+    rest_with InstallingCe create (with_user create (Own Durable ∷ HasKey ForDe true ∷ [])) 2
 rest_at Ended create = rest_with Ended create
-    (Own (Logged (Born create.birth)) ∷ Own Durable ∷ HasKey ForDe ∷ HasKey ForCe ∷ []) 1
+    (Own (Logged (Born create.birth)) ∷ Own Durable ∷ HasKey ForDe true ∷ HasKey ForCe true ∷ []) 1
 
 abbrev pub create_rest : Creating → Rest
 create_rest create = record (rest_at create.stage create) { user = create.user }

@@ -1,5 +1,6 @@
 pub mod Clearing
 pub mod Create
+pub mod Lock
 pub mod Made
 pub mod Stores
 pub mod Tasks

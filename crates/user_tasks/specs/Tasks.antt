@@ -1,5 +1,6 @@
 -- The commands of users: what each rests on, what its turn shows, and how it begins.
-use Rattle.std.specs.Prelude.{◌≡◌, ◌⊎◌, ℕ, ◌+◌, ◌*◌, ◌≤◌, List, [], Option, Some, None, is_some}
+use Rattle.std.specs.Prelude.{◌≡◌, ◌⊎◌, ℕ, ◌+◌, ◌*◌, ◌≤◌, Bool, false, List, [], Option, Some, None, is_some}
+use Rattle.tree_model.specs.declared.places.Class.TheVariants.{Ce as ForCe}
 use Rattle.tree_model.specs.declared.sites.Site.{Site}
 use Rattle.journal_model.specs.declared.commands.Command.{Command}
 use Rattle.journal_model.specs.declared.entries.Birth.{Birth}
@@ -10,24 +11,41 @@ use Rattle.journal_model.specs.Refusals.{refusal_of}
 use Rattle.journal_model.specs.Machine.{Running as Began}
 use Rattle.user_world.specs.OwnWorlds.{own_view, own_record, OwnImagesStand}
 use Rattle.key_directory.specs.Vaults.{sealed}
+use Rattle.step_core.specs.declared.jobs.Job.{Job}
+use Rattle.task_turns.specs.declared.calls.Answer.{Answer}
 use Rattle.task_turns.specs.declared.next.Next.{Next}
 use Rattle.task_turns.specs.declared.next.Next.TheVariants.{Work as WorkNext}
 use Rattle.task_turns.specs.Shares.{Share}
-use Rattle.task_turns.specs.Turns.{Rest, Rests, Scene, Tasks, TurnShows}
+use Rattle.task_turns.specs.Turns.{Rest, Rests, Scene, Tasks, seen_of, TurnShows}
 use Rattle.user_tasks.specs.Clearing.{IsNextToClear}
-use Rattle.user_tasks.specs.Create.{Creating, creates, create_rest}
+use Rattle.user_tasks.specs.declared.tasks.UserTask.{UserTask}
+use Rattle.user_tasks.specs.declared.tasks.UserTask.TheVariants.{Create as OfCreate, Lock as OfLock}
+use Rattle.user_tasks.specs.Create.{Creating, create_rest}
+use Rattle.user_tasks.specs.Create.{after as create_after, hears as create_hears, asks_of as create_asks}
+use Rattle.user_tasks.specs.Lock.{lock_rest, after as lock_after, hears as lock_hears}
 
-abbrev pub UserTask : Type 0
-UserTask = Creating
+-- where a task rests, the answers that it may hear, what it is after one, and whether it asks for a job next
+abbrev pub rest_of : UserTask → Rest
+rest_of (OfCreate create) = create_rest create
+rest_of (OfLock lock) = lock_rest lock
+
+abbrev pub hears : UserTask → Answer → Type 0
+hears (OfCreate create) answer = create_hears create answer
+hears (OfLock lock) answer = lock_hears lock answer
+
+abbrev pub after : UserTask → Answer → UserTask
+after (OfCreate create) answer = OfCreate (create_after create answer)
+after (OfLock lock) answer = OfLock (lock_after lock)
+
+abbrev pub asks_of : UserTask → Bool
+asks_of (OfCreate create) = create_asks create
+asks_of (OfLock lock) = false
 
 abbrev pub tasks : Tasks UserTask
-tasks = creates
-
-abbrev pub rest_of : UserTask → Rest
-rest_of task = create_rest task
+tasks = record { rest_of = rest_of; hears = hears; after = after; asks = asks_of }
 
 abbrev pub user_of : UserTask → ℕ
-user_of task = task.user
+user_of task = (rest_of task).user
 
 -- how many turns any command has as it begins, at most
 abbrev pub most_turns : ℕ
@@ -38,7 +56,7 @@ abbrev pub UserTurns : UserTask → Option Site → Next → Type 0
 UserTurns task in_the_way next = (scene : Scene)
     → OwnImagesStand (sealed scene.share.vault) (user_of task) scene.share.own
     → IsNextToClear (own_view scene.share.own) in_the_way
-    → Rests (rest_of task) scene.boot scene.began scene.share → TurnShows tasks task scene next
+    → Rests (rest_of task) scene.boot scene.began scene.share → TurnShows (seen_of tasks task) scene next
 
 -- a command as it begins and isn't refused
 abbrev pub accepted : Command → ℕ → Began
@@ -53,16 +71,25 @@ pub record Begins (command : Command) (birth : Birth) (boot_seed : List ℕ) (ta
   pub draws : (rest_of task).draws ≤ 2
   pub held : (rest_of task).held ≡ []
   pub rests : (facts : Facts) (share : Share) → facts.present ≡ is_some (own_record share.own)
-      → refusal_of command facts ≡ None → boot_seed ≡ boot_seed_of share.vault.seed birth.boot
+      → facts.installed ≡ is_some (share.keys ForCe) → refusal_of command facts ≡ None
+      → boot_seed ≡ boot_seed_of share.vault.seed birth.boot
       → Rests (rest_of task) birth.boot (accepted command birth.index) share
 
 -- the numbers of a command's jobs, which no other command's have
-pub record HasJobs (number : ℕ) (task : UserTask) : Type 0 where
-  pub ce : task.ce.job ≡ 65536 * number
-  pub de : task.de.job ≡ 65536 * number + 1
+pub record HasTwoJobs (number : ℕ) (create : Creating) : Type 0 where
+  pub ce : create.ce.job ≡ 65536 * number
+  pub de : create.de.job ≡ 65536 * number + 1
+
+abbrev pub HasJobs : ℕ → UserTask → Type 0
+HasJobs number (OfCreate create) = HasTwoJobs number create
+HasJobs number (OfLock lock) = Unit {0}
+
+abbrev pub OwnsJob : UserTask → Job → Type 0
+OwnsJob (OfCreate create) job = (job.number ≡ create.ce.job) ⊎ (job.number ≡ create.de.job)
+OwnsJob (OfLock lock) job = ⊥
 
 abbrev pub IsNumbered : UserTask → Next → Type 0
-IsNumbered task (WorkNext job) = (job.number ≡ task.ce.job) ⊎ (job.number ≡ task.de.job)
+IsNumbered task (WorkNext job) = OwnsJob task job
 IsNumbered task next = Unit {0}
 
 -- a job that the turn hands out has one of the task's numbers

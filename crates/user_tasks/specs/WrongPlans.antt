@@ -23,6 +23,7 @@ use Rattle.user_tasks.specs.declared.creates.Stage.TheVariants.{StoringDe, Creat
 use Rattle.user_tasks.specs.Create.{Creating}
 use Rattle.user_tasks.specs.Made.{target_of}
 use Rattle.user_tasks.specs.Tasks.{UserTurns}
+use Rattle.user_tasks.specs.declared.tasks.UserTask.TheVariants.{Create as OfCreate}
 
 -- whose create it is, and the blobs of the entries that it made
 pub record Plan : Type 0 where
@@ -74,41 +75,42 @@ create_at plan progress stage = record {
 -- the reply comes before the last sync
 abbrev pub RepliesBeforeSync : Type 0
 RepliesBeforeSync =
-    (plan : Plan) → UserTurns (create_at plan Stored Created) (Some (Ce Current)) (ReplyNext Done) → ⊥
+    (plan : Plan) → UserTurns (OfCreate (create_at plan Stored Created)) (Some (Ce Current)) (ReplyNext Done) → ⊥
 
 -- the device key's directory is left out
 abbrev pub LeavesOutDevice : Type 0
 LeavesOutDevice =
-    (plan : Plan) → UserTurns (create_at plan Settled StoringDe) (Some Temp) (ReplyNext Done) → ⊥
+    (plan : Plan) → UserTurns (OfCreate (create_at plan Settled StoringDe)) (Some Temp) (ReplyNext Done) → ⊥
 
 -- the rename that makes the user is not noted as a change
 abbrev pub HidesChange : Type 0
 HidesChange = (plan : Plan)
-    → UserTurns (create_at plan Settled StoringDe) (Some Temp)
+    → UserTurns (OfCreate (create_at plan Settled StoringDe)) (Some Temp)
     (CallNext (OpCall plan.user (RenameDir Temp De) (Some plan.de_blob)) None)
     → ⊥
 
 -- it doesn't tell the blob that the directory names
 abbrev pub HidesBlob : Type 0
 HidesBlob = (plan : Plan)
-    → UserTurns (create_at plan Settled StoringDe) (Some Temp)
+    → UserTurns (OfCreate (create_at plan Settled StoringDe)) (Some Temp)
     (CallNext (OpCall plan.user (RenameDir Temp De) None) (Some (Born plan.birth)))
     → ⊥
 
 -- it is on another user's places
 abbrev pub TouchesOther : Type 0
 TouchesOther = (plan : Plan) (other : ℕ) → other ≢ plan.user
-    → UserTurns (create_at plan Settled StoringDe) (Some Temp)
+    → UserTurns (OfCreate (create_at plan Settled StoringDe)) (Some Temp)
     (CallNext (OpCall other (RenameDir Temp De) (Some plan.de_blob)) (Some (Born plan.birth)))
     → ⊥
 
 -- the reply comes before the keys are installed
 abbrev pub RepliesBeforeKeys : Type 0
 RepliesBeforeKeys =
-    (plan : Plan) → UserTurns (create_at plan Stored InstallingDe) (Some (Ce Current)) (ReplyNext Done) → ⊥
+    (plan : Plan) → UserTurns (OfCreate (create_at plan Stored InstallingDe)) (Some (Ce Current)) (ReplyNext Done) → ⊥
 
 -- it installs a key that the user wasn't given
 abbrev pub InstallsOther : Type 0
 InstallsOther = (plan : Plan) (key : List ℕ) → key ≢ key_of plan.seed ForDe plan.user plan.birth
-    → UserTurns (create_at plan Stored InstallingDe) (Some (Ce Current)) (CallNext (Add plan.user ForDe key) None)
+    → UserTurns (OfCreate (create_at plan Stored InstallingDe)) (Some (Ce Current))
+    (CallNext (Add plan.user ForDe key) None)
     → ⊥

@@ -1,6 +1,7 @@
 ghost use Rattle.std.specs.Prelude.{◌≡◌, ◌<◌, IfOk};
 ghost use Rattle.task_turns.specs.declared.calls.Call.TheVariants.{Add};
-ghost use Rattle.task_turns.specs.Turns.{Asks};
+ghost use Rattle.task_turns.specs.Turns.{Asks, seen_of};
+ghost use Rattle.user_tasks.specs.declared.tasks.UserTask.TheVariants.{Create as OfCreate};
 ghost use Rattle.store_task.specs.declared.stages.Stage.TheVariants.{First};
 ghost use Rattle.store_task.specs.declared.stages.Progress.TheVariants.{Stored};
 ghost use Rattle.store_task.specs.Task.{IsAnswer, after as store_after, progress_of};
@@ -103,9 +104,9 @@ impl Create {
 
     /// The next turn, where `in_the_way` is the first of the user's sites that has to be cleared.
     pub fn next(&self, alloc: Global, in_the_way: Option<Site>) -> Result<Next, NoMemory>
-        ensures turn { IfOk result (UserTurns self.now in_the_way) }
-        ensures asks { IfOk result (Asks tasks self.now) }
-        ensures jobs { IfOk result (UserJobs self.now in_the_way) }
+        ensures turn { IfOk result (UserTurns (OfCreate self.now) in_the_way) }
+        ensures asks { IfOk result (Asks (seen_of tasks (OfCreate self.now))) }
+        ensures jobs { IfOk result (UserJobs (OfCreate self.now) in_the_way) }
     {
         match self.stage {
             Stage::Clearing => match in_the_way {

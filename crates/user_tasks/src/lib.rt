@@ -3,12 +3,14 @@
 #![tactic(auto)]
 
 pub mod creates;
+pub mod locks;
 pub mod made;
 pub mod stores;
 pub mod tasks;
 pub mod wrong_plans;
 
 pub use creates::{Create, Stage};
+pub use locks::{Lock, LockStage};
 pub use tasks::{UserTask, first};
 
 #[cfg(test)]

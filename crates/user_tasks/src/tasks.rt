@@ -1,14 +1,78 @@
-ghost use Rattle.std.specs.Prelude.{◌<◌, MatchOption, IfOk, IfSome, IsNone};
+ghost use Rattle.std.specs.Prelude.{◌≡◌, ◌<◌, MatchOption, IfOk, IfSome, IsNone};
 ghost use Rattle.journal_model.specs.Command.{user_in};
-ghost use Rattle.user_tasks.specs.Tasks.{Begins, HasJobs};
+ghost use Rattle.task_turns.specs.Turns.{Asks, seen_of};
+ghost use Rattle.user_tasks.specs.Create.{all_held};
+ghost use Rattle.user_tasks.specs.Tasks.{Begins, HasJobs, UserTurns, UserJobs, tasks, rest_of, user_of};
 
 use crate::creates::Create;
+use crate::locks::Lock;
 use journal_model::{Birth, Command};
 use std::alloc::Global;
-use tree_model::NoMemory;
+use task_turns::{Answer, Next};
+use tree_model::{Blob, NoMemory, Site};
 
 /// A user's command on its way: of every kind there is.
-pub type UserTask = Create;
+#[derive(Drop)]
+pub enum UserTask {
+    Create(Create),
+    Lock(Lock),
+}
+
+impl UserTask {
+    /// Whose it is.
+    pub fn user(&self) -> u32
+        ensures { result ≡ user_of self.now }
+    {
+        match self {
+            UserTask::Create(create) => create.user(),
+            UserTask::Lock(lock) => lock.user,
+        }
+    }
+
+    /// The next turn, where `in_the_way` is the first of the user's sites that has to be cleared before a directory is
+    /// stored.
+    pub fn next(&self, alloc: Global, in_the_way: Option<Site>) -> Result<Next, NoMemory>
+        ensures turn { IfOk result (UserTurns self.now in_the_way) }
+        ensures asks { IfOk result (Asks (seen_of tasks self.now)) }
+        ensures jobs { IfOk result (UserJobs self.now in_the_way) }
+    {
+        match self {
+            UserTask::Create(create) => create.next(alloc, in_the_way),
+            UserTask::Lock(lock) => Ok(lock.next()),
+        }
+    }
+
+    /// The task after an answer to its turn. It takes no memory.
+    pub fn heard(&mut self, answer: Answer)
+        requires hears { tasks.hears self.old answer }
+        ensures after { self.new ≡ tasks.after self.old answer }
+    {
+        match self {
+            UserTask::Create(create) => create.heard(answer),
+            UserTask::Lock(lock) => *lock = lock.heard(),
+        }
+    }
+
+    /// The blobs that it holds, in the order in which they were made.
+    pub fn held(&self) -> [Option<Blob>; 2]
+        ensures { all_held result ≡ (rest_of self.now).held }
+    {
+        match self {
+            UserTask::Create(create) => create.held(),
+            UserTask::Lock(_) => [None, None],
+        }
+    }
+
+    /// The same task in memory of its own.
+    pub fn duplicate(&self, alloc: Global) -> Result<UserTask, NoMemory>
+        ensures { IfOk result (λ copied. copied ≡ self.now) }
+    {
+        Ok(match self {
+            UserTask::Create(create) => UserTask::Create(create.duplicate(alloc)?),
+            UserTask::Lock(lock) => UserTask::Lock(*lock),
+        })
+    }
+}
 
 /// The task of a user's command that begins and isn't refused; None exactly where the command is not a user's.
 pub fn first(
@@ -26,8 +90,9 @@ pub fn first(
     match command {
         Command::Create { user } => {
             let create = Create::first(alloc, *user, birth, number, boot_seed)?;
-            Ok(Some(create))
+            Ok(Some(UserTask::Create(create)))
         }
+        Command::Lock { user } => Ok(Some(UserTask::Lock(Lock::first(*user)))),
         Command::Recover => Ok(None),
     }
 }

@@ -48,6 +48,10 @@ use Rattle.vold_book.proofs.Moves.{Steady, whole-of, at_actors}
 use Rattle.vold_book.proofs.Plains.{Beginning, IsBeginning, begun_plain, begun_seen}
 use Rattle.vold_book.proofs.Numbers.{all_given-append}
 use Rattle.vold_book.proofs.UserTurns.{not_boot}
+use Rattle.tree_model.specs.declared.places.Class.TheVariants.{Ce}
+use Rattle.key_ring.specs.Ring.{has_owner}
+use Rattle.key_ring.proofs.Owners.{found}
+use Rattle.journal_model.specs.Machine.{is_unlocked}
 
 pub none_of : {A : Type 0} (found : Option A) → IsNone found → found ≡ None
 none_of None none = refl
@@ -78,6 +82,7 @@ module _ (book : Plain) (actor : Actor) (begins : Beginning) (whole : Whole book
   facts-agree : facts_in book.bench.places book begins.command ≡ facts_of machine begins.command
   facts-agree = λ i. record {
     present = there (user_in begins.command) refl i;
+    installed = is_unlocked (user_in begins.command) machine.ring;
     ready = is_up (sym whole.agrees.phase i);
   }
     where
@@ -131,10 +136,15 @@ module _ (book : Plain) (actor : Actor) (begins : Beginning) (whole : Whole book
       ap (λ f. f.present) facts-agree ∙ ap (λ o. is_present o (fold_changes machine.log)) shows.owned
       ∙ sym (there-user vault line (user_of first) whole.worlds)
       ∙ sym (there-record vault line (user_of first) whole.worlds) in
+      let installed : is_unlocked (user_in begins.command) machine.ring ≡ is_some (share.keys Ce) =
+      ap (λ o. is_unlocked o machine.ring) shows.owned
+      ∙ ap (λ all. has_owner all (user_of first) Ce) whole.ring.owned
+      ∙ found book.bench.keys (user_of first) Ce in
       subst StandsFirst (sym is_first) (record {
         stands = subst (λ b. Rests (rest_of first) b began share) (sym whole.agrees.boot)
             (subst (λ b. Rests (rest_of first) book.tracker.boot b share) (same_began none)
-            (shows.rests (facts_in book.bench.places book begins.command) share present accepted_it whole.seeded));
+            (shows.rests (facts_in book.bench.places book begins.command) share present installed accepted_it
+            whole.seeded));
         empty = shows.held;
       })
   accepted-stands none accepted_it None of task first =

@@ -28,7 +28,7 @@ use Rattle.vold_book.specs.declared.plans.Plan.TheVariants.{Call as PlansCall}
 use Rattle.vold_book.specs.Steps.{RepliesTo, IsPlanned, task_now, GoesOn}
 use Rattle.user_world.specs.declared.changes.LocalChange.{LocalChange}
 use Rattle.task_turns.specs.declared.calls.Call.{Call}
-use Rattle.user_tasks.specs.Tasks.{UserTask}
+use Rattle.user_tasks.specs.declared.tasks.UserTask.{UserTask}
 use Rattle.vold_book.specs.Tasks.{Plans, HearsMade, TaskAfter, lists_with}
 use Rattle.vold_book.specs.Turns.{FirstTask, facts_in, begun_bench, Begins, Making, Makes, after_reply}
 use Rattle.vold_book.specs.Whole.{IsWhole, turns_left}

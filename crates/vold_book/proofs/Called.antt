@@ -5,7 +5,7 @@ use Rattle.journal_model.specs.declared.commands.Actor.{Actor}
 use Rattle.user_world.specs.declared.changes.LocalChange.{LocalChange}
 use Rattle.task_turns.specs.declared.calls.Call.{Call}
 use Rattle.task_turns.specs.declared.calls.Call.TheVariants.{Op as OpCall, Sync, List as ListCall, Read}
-use Rattle.task_turns.specs.declared.calls.Call.TheVariants.{Generate, Encrypt, Entries, Add}
+use Rattle.task_turns.specs.declared.calls.Call.TheVariants.{Generate, Encrypt, Entries, Add, Remove}
 use Rattle.tree_model.specs.declared.sites.LocalOp.{LocalOp}
 use Rattle.task_turns.specs.declared.next.Next.TheVariants.{Call as CallNext}
 use Rattle.keystore_model.specs.Store.{IsStore}
@@ -126,6 +126,7 @@ module _ (before after : Seen) (whole : IsStore before.store) where
   done-store (Encrypt blob app_id nonce key) answer does = same-store (ap (λ b. b.store) does.1)
   done-store Entries answer does = same-store (ap (λ b. b.store) does.1.2)
   done-store (Add user class key) answer does = same-store (ap (λ b. b.store) does.1)
+  done-store (Remove user class) answer does = same-store (ap (λ b. b.store) does.1)
 
   failed-call_store : (call : Call) → IsFailed before after call → KeepsStore before after
   failed-call_store (OpCall user op names) failed = failed-op_store user op failed
@@ -136,6 +137,7 @@ module _ (before after : Seen) (whole : IsStore before.store) where
   failed-call_store (Encrypt blob app_id nonce key) failed = same-store (ap (λ b. b.store) failed)
   failed-call_store Entries failed = same-store (ap (λ b. b.store) failed)
   failed-call_store (Add user class key) failed = same-store (ap (λ b. b.store) failed)
+  failed-call_store (Remove user class) failed = same-store (ap (λ b. b.store) failed)
 
   made-store : (call : Call) (made : Made) → IsMade before after call (Ok made) → KeepsStore before after
   made-store call (Heard answer) is = done-store call answer is

@@ -8,7 +8,8 @@ use Rattle.tree_model.specs.Counted.{Rose}
 use Rattle.journal_model.specs.declared.commands.Actor.{Actor}
 use Rattle.journal_model.specs.declared.commands.Command.{Command}
 use Rattle.journal_model.specs.declared.commands.Reply.{Reply}
-use Rattle.journal_model.specs.declared.commands.Reply.TheVariants.{Done, Ended, UserExists, Ready}
+use Rattle.journal_model.specs.declared.commands.Reply.TheVariants.{Done, Ended, UserExists, NoUser, NotInstalled}
+use Rattle.journal_model.specs.declared.commands.Reply.TheVariants.{Ready}
 use Rattle.journal_model.specs.declared.commands.Reply.TheVariants.{TreeFault, StoreFault, RingFault}
 use Rattle.journal_model.specs.declared.entries.Birth.{Birth}
 use Rattle.journal_model.specs.declared.entries.Device.{Device}
@@ -24,7 +25,7 @@ use Rattle.docket.proofs.Accounts.{sum-empty}
 use Rattle.user_world.specs.declared.changes.LocalChange.{LocalChange}
 use Rattle.task_turns.specs.declared.calls.Call.{Call}
 use Rattle.task_turns.specs.declared.calls.Call.TheVariants.{Op as OpCall, Sync, List as ListCall, Read}
-use Rattle.task_turns.specs.declared.calls.Call.TheVariants.{Generate, Encrypt, Entries, Add}
+use Rattle.task_turns.specs.declared.calls.Call.TheVariants.{Generate, Encrypt, Entries, Add, Remove}
 use Rattle.bench.specs.declared.made.Made.{Made}
 use Rattle.bench.specs.declared.made.Made.TheVariants.{Heard, Failed}
 use Rattle.bench.specs.Bench.{Plain as Seen, AreCounted, IsMade, device_of, told_of}
@@ -60,7 +61,8 @@ noted-entry (Heard answer) number (Read place) change = tt
 noted-entry (Heard answer) number (Generate tag app_id) change = tt
 noted-entry (Heard answer) number (Encrypt blob app_id nonce key) change = tt
 noted-entry (Heard answer) number Entries change = tt
-noted-entry (Heard answer) number (Add user class key) change = inr (inr (user, class, refl))
+noted-entry (Heard answer) number (Add user class key) change = inr (inr (user, class, inl refl))
+noted-entry (Heard answer) number (Remove user class) change = inr (inr (user, class, inr refl))
 
 charges-noted : (device : Device) (number : ℕ) (entries : List Entry) (entry : Option Entry) → IsNoted number entry
     → total_by (charge_in device) (with_entry entries entry) ≡ total_by (charge_in device) entries
@@ -69,7 +71,9 @@ charges-noted device number entries (Some entry) (inl is) =
     let a = charges-append device entries entry in let n = ap (charge_in device) is in omega (arith, a, n)
 charges-noted device number entries (Some entry) (inr (inl (change, is))) =
     let a = charges-append device entries entry in let n = ap (charge_in device) is in omega (arith, a, n)
-charges-noted device number entries (Some entry) (inr (inr (user, class, is))) =
+charges-noted device number entries (Some entry) (inr (inr (user, class, inl is))) =
+    let a = charges-append device entries entry in let n = ap (charge_in device) is in omega (arith, a, n)
+charges-noted device number entries (Some entry) (inr (inr (user, class, inr is))) =
     let a = charges-append device entries entry in let n = ap (charge_in device) is in omega (arith, a, n)
 
 -- what a reply charges was due
@@ -83,6 +87,8 @@ due-told : (device : Device) (reply : Reply) (task : Task) → (reply ≡ fault_
 due-told TreeDevice Done task told = omega arith
 due-told TreeDevice (Ended count) task told = omega arith
 due-told TreeDevice UserExists task told = omega arith
+due-told TreeDevice NoUser task told = omega arith
+due-told TreeDevice NotInstalled task told = omega arith
 due-told TreeDevice Ready task told = omega arith
 due-told TreeDevice TreeFault task told = let e = due-fault TreeDevice task (told refl) in omega (arith, e)
 due-told TreeDevice StoreFault task told = omega arith
@@ -90,6 +96,8 @@ due-told TreeDevice RingFault task told = omega arith
 due-told StoreDevice Done task told = omega arith
 due-told StoreDevice (Ended count) task told = omega arith
 due-told StoreDevice UserExists task told = omega arith
+due-told StoreDevice NoUser task told = omega arith
+due-told StoreDevice NotInstalled task told = omega arith
 due-told StoreDevice Ready task told = omega arith
 due-told StoreDevice TreeFault task told = omega arith
 due-told StoreDevice StoreFault task told = let e = due-fault StoreDevice task (told refl) in omega (arith, e)
@@ -97,6 +105,8 @@ due-told StoreDevice RingFault task told = omega arith
 due-told RingDevice Done task told = omega arith
 due-told RingDevice (Ended count) task told = omega arith
 due-told RingDevice UserExists task told = omega arith
+due-told RingDevice NoUser task told = omega arith
+due-told RingDevice NotInstalled task told = omega arith
 due-told RingDevice Ready task told = omega arith
 due-told RingDevice TreeFault task told = omega arith
 due-told RingDevice StoreFault task told = omega arith

@@ -28,16 +28,17 @@ use Rattle.task_turns.specs.declared.calls.Answer.{Answer}
 use Rattle.task_turns.specs.declared.calls.Answer.TheVariants.{Sealed}
 use Rattle.task_turns.specs.declared.calls.Call.{Call}
 use Rattle.task_turns.specs.declared.calls.Call.TheVariants.{Op, Sync, List as ListCall, Read}
-use Rattle.task_turns.specs.declared.calls.Call.TheVariants.{Generate, Encrypt, Entries, Add}
+use Rattle.task_turns.specs.declared.calls.Call.TheVariants.{Generate, Encrypt, Entries, Add, Remove}
 use Rattle.task_turns.specs.declared.next.Next.{Next}
 use Rattle.task_turns.specs.declared.next.Next.TheVariants.{Call as CallNext}
 use Rattle.task_turns.specs.Names.{Brings}
-use Rattle.task_turns.specs.Turns.{Scene, CallStands}
+use Rattle.task_turns.specs.Turns.{seen_of, Scene, CallStands}
 use Rattle.bench.specs.declared.made.Made.{Made}
 use Rattle.bench.specs.declared.made.Made.TheVariants.{Heard, Failed}
 use Rattle.bench.specs.Bench.{Plain as Seen, Does, IsFailedOp, IsFailed, IsMade, was_done, listed}
 use Rattle.bench.specs.Seen.{AnswersWhole}
-use Rattle.user_tasks.specs.Tasks.{UserTask, tasks, user_of, rest_of}
+use Rattle.user_tasks.specs.declared.tasks.UserTask.{UserTask}
+use Rattle.user_tasks.specs.Tasks.{tasks, user_of, rest_of}
 use Rattle.vold_book.specs.declared.recovery.Recovery.{Recovery}
 use Rattle.vold_book.specs.declared.tasks.Running.{Running}
 use Rattle.vold_book.specs.declared.tasks.Task.{Task}
@@ -117,6 +118,7 @@ module _ (book : Plain) (whole : Whole book) (actor : Actor) (it then : Running)
   clean-failed bench (Encrypt blob app_id nonce key) same brings failed = clean-rests bench same (ap sensed failed)
   clean-failed bench Entries same brings failed = clean-rests bench same (ap sensed failed)
   clean-failed bench (Add user class key) same brings failed = clean-rests bench same (ap sensed failed)
+  clean-failed bench (Remove user class) same brings failed = clean-rests bench same (ap sensed failed)
 
   -- a user's call that was done
   module _ (task : UserTask) (began : Began) (held : (rest_of task).held ≡ held_of it) where
@@ -128,7 +130,7 @@ module _ (book : Plain) (whole : Whole book) (actor : Actor) (it then : Running)
     HeldAfter answer = held_of then ≡ (rest_of (tasks.after task answer)).held
 
     user-done : (bench : Seen) (call : Call) (change : Option LocalChange) (answer : Answer)
-        → CallStands tasks task scene call change → Does book.bench bench call answer
+        → CallStands (seen_of tasks task) scene call change → Does book.bench bench call answer
         → AnswersWhole (Ok (Heard answer)) → HeldAfter answer → Clean bench
     user-done bench (Op user op names) change answer stands does long after =
         clean-renamed book whole actor it then runs bench user op stands.gains
@@ -156,6 +158,8 @@ module _ (book : Plain) (whole : Whole book) (actor : Actor) (it then : Running)
     user-done bench Entries change answer stands does long after = absurd stands
     user-done bench (Add user class key) change answer stands does long after =
         clean-rests bench (subst HeldAfter does.0 after ∙ stands.held ∙ held) (ap sensed does.1)
+    user-done bench (Remove user class) change answer stands does long after =
+        clean-rests bench (subst HeldAfter does.0 after ∙ stands.held ∙ held) (ap sensed does.1)
 
   -- a recovery's, which holds nothing
   recovery-done : (recovery : Recovery) → held_of it ≡ [] → held_of then ≡ held_of it → book.tracker.phase ≡ Down
@@ -175,6 +179,7 @@ module _ (book : Plain) (whole : Whole book) (actor : Actor) (it then : Running)
   recovery-done recovery none same down bench (Generate tag app_id) answer calls does = absurd calls
   recovery-done recovery none same down bench (Encrypt blob app_id nonce key) answer calls does = absurd calls
   recovery-done recovery none same down bench (Add user class key) answer calls does = absurd calls
+  recovery-done recovery none same down bench (Remove user class) answer calls does = absurd calls
   recovery-done recovery none same down bench Entries answer calls does =
       subst (CleanSensed book whole actor it then runs) (sym (ap sensed does.1.2))
       (clean-held (record (custody_of book) { list = listed book.bench.list does.1.0 })

@@ -11,13 +11,14 @@ use Rattle.journal_model.specs.declared.commands.Command.{Command}
 use Rattle.journal_model.specs.declared.commands.Command.TheVariants.{Recover}
 use Rattle.journal_model.specs.declared.commands.Reply.{Reply}
 use Rattle.journal_model.specs.declared.entries.Birth.{Birth}
-use Rattle.journal_model.specs.declared.commands.Reply.TheVariants.{TreeFault, StoreFault, RingFault}
+use Rattle.journal_model.specs.declared.commands.Reply.TheVariants.{Ready, TreeFault, StoreFault, RingFault}
 use Rattle.journal_model.specs.declared.entries.Device.TheVariants.{Tree, Store, Ring}
 use Rattle.journal_model.specs.declared.phase.Phase.TheVariants.{Down}
 use Rattle.journal_model.specs.Command.{actor_of, user_in}
 use Rattle.journal_model.specs.Machine.{Running as Began, is_up, phase_after, kind_of_reply}
 use Rattle.journal_model.specs.Machine.{Success, Refusal as RefusalKind, Fault as FaultKind}
-use Rattle.journal_model.specs.Refusals.{refusal_of}
+use Rattle.journal_model.specs.declared.refusals.Facts.{Facts}
+use Rattle.journal_model.specs.Refusals.{refusal_of, due}
 use Rattle.journal_model.proofs.ByCommand.{phase-stays, user-stays, no-user}
 use Rattle.keystore_model.specs.Store.{IsLive}
 use Rattle.keystore_model.proofs.Elements.{Contains-none}
@@ -29,7 +30,8 @@ use Rattle.deferred_delete.specs.declared.items.Item.{Item}
 use Rattle.bench.specs.Bench.{Plain as Seen, listed}
 use Rattle.step_core.specs.declared.jobs.Job.{Job}
 use Rattle.task_turns.specs.declared.next.Next.TheVariants.{Reply as ReplyNext}
-use Rattle.user_tasks.specs.Tasks.{UserTask, rest_of}
+use Rattle.user_tasks.specs.declared.tasks.UserTask.{UserTask}
+use Rattle.user_tasks.specs.Tasks.{rest_of}
 use Rattle.vold_book.specs.declared.opened.Opened.{Opened}
 use Rattle.vold_book.specs.declared.recovery.Recovery.{Recovery}
 use Rattle.vold_book.specs.declared.tasks.Running.{Running}
@@ -80,10 +82,9 @@ clean-emptied custody clean down = record {
 }
 
 -- a recovery begins on no machine that is up
-due-down : (present up : Bool) (command : Command) (birth : Birth) (boot_seed : List ℕ) (recovery : Recovery)
-    → FirstTask command birth boot_seed (refusal_of command (record { present = present; ready = up }))
-    (Recovers recovery) → up ≡ false
-due-down present up command birth boot_seed recovery first = by (user_in command) refl
+due-down : (facts : Facts) (command : Command) (birth : Birth) (boot_seed : List ℕ) (recovery : Recovery)
+    → FirstTask command birth boot_seed (refusal_of command facts) (Recovers recovery) → facts.ready ≡ false
+due-down facts command birth boot_seed recovery first = by (user_in command) refl
   where
     accepted : (of : Option ℕ) → IsSome of → AcceptedTask command birth boot_seed of (Recovers recovery) → ⊥
     accepted None some first = cc
@@ -97,18 +98,14 @@ due-down present up command birth boot_seed recovery first = by (user_in command
     of-user (Some reply) some first = cc
     of-user None some first = accepted (user_in command) some first
 
-    recovers : (up : Bool)
-        → FirstTask Recover birth boot_seed (refusal_of Recover (record { present = present; ready = up }))
-        (Recovers recovery) → up ≡ false
+    recovers : (up : Bool) → FirstTask Recover birth boot_seed (due up Ready) (Recovers recovery) → up ≡ false
     recovers true first = cc
     recovers false first = refl
 
-    by : (of : Option ℕ) → user_in command ≡ of → up ≡ false
-    by None of = recovers up (subst (λ c. FirstTask c birth boot_seed
-        (refusal_of c (record { present = present; ready = up })) (Recovers recovery)) (no-user command of) first)
-    by (Some user) of =
-        absurd (of-user (refusal_of command (record { present = present; ready = up }))
-        (subst IsSome (sym of) refl) first)
+    by : (of : Option ℕ) → user_in command ≡ of → facts.ready ≡ false
+    by None of = recovers facts.ready (subst (λ c. FirstTask c birth boot_seed (refusal_of c facts)
+        (Recovers recovery)) (no-user command of) first)
+    by (Some user) of = absurd (of-user (refusal_of command facts) (subst IsSome (sym of) refl) first)
 
 -- a command begins where its actor runs none
 module _ (book : Plain) (actor : Actor) (begins : Beginning) (birth : Birth) (whole : Whole book)
@@ -136,7 +133,8 @@ module _ (book : Plain) (actor : Actor) (begins : Beginning) (birth : Birth) (wh
           })
       by (Using task) first = begun-same
       by (Recovers recovery) first = clean-emptied _ begun-same
-          (due-down _ (is_up book.tracker.phase) begins.command birth book.boot_seed recovery first)
+          (due-down (facts_in book.bench.places book begins.command) begins.command birth book.boot_seed recovery
+          first)
       by (Refusal reply) first = begun-same
       by (Fault device held) first = begun-same
 

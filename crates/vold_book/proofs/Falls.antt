@@ -32,11 +32,11 @@ use Rattle.step_core.specs.Table.{NamedPlaces}
 use Rattle.task_turns.specs.declared.calls.Answer.{Answer}
 use Rattle.task_turns.specs.declared.calls.Call.{Call}
 use Rattle.task_turns.specs.declared.calls.Call.TheVariants.{Op as OpCall, Sync, List as ListCall, Read}
-use Rattle.task_turns.specs.declared.calls.Call.TheVariants.{Generate, Encrypt, Entries, Add}
+use Rattle.task_turns.specs.declared.calls.Call.TheVariants.{Generate, Encrypt, Entries, Add, Remove}
 use Rattle.bench.specs.declared.made.Made.{Made}
 use Rattle.bench.specs.declared.made.Made.TheVariants.{Heard, Failed}
 use Rattle.bench.specs.Bench.{Plain as Seen, Fits, Does, IsFailed, IsFailedOp, IsMade}
-use Rattle.user_tasks.specs.Tasks.{UserTask}
+use Rattle.user_tasks.specs.declared.tasks.UserTask.{UserTask}
 use Rattle.vold_book.specs.declared.recovery.Recovery.{Recovery}
 use Rattle.vold_book.specs.declared.tasks.Running.{Running}
 use Rattle.vold_book.specs.declared.tasks.Task.{Task}
@@ -116,6 +116,7 @@ failed-len before after (Generate tag app_id) fits failed = ap (λ b. map.len (v
 failed-len before after (Encrypt blob app_id nonce key) fits failed = ap (λ b. map.len (view b.disk)) failed
 failed-len before after Entries fits failed = ap (λ b. map.len (view b.disk)) failed
 failed-len before after (Add user class key) fits failed = ap (λ b. map.len (view b.disk)) failed
+failed-len before after (Remove user class) fits failed = ap (λ b. map.len (view b.disk)) failed
 
 done-len : (before after : Seen) (call : Call) (answer : Answer) → Fits before call → Does before after call answer
     → map.len (view after.disk) + (cost_made call (Heard answer)).takes
@@ -131,6 +132,7 @@ done-len before after (Generate tag app_id) answer fits does = ap (λ b. map.len
 done-len before after (Encrypt blob app_id nonce key) answer fits does = ap (λ b. map.len (view b.disk) + 0) does.1
 done-len before after Entries answer fits does = ap (λ b. map.len (view b.disk) + 0) does.1.2
 done-len before after (Add user class key) answer fits does = ap (λ b. map.len (view b.disk) + 0) does.1
+done-len before after (Remove user class) answer fits does = ap (λ b. map.len (view b.disk) + 0) does.1
 
 made-len : (before after : Seen) (call : Call) (made : Made) → Fits before call
     → IsMade before after call (Ok made)

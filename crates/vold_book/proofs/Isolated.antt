@@ -14,7 +14,7 @@ use Rattle.tree_model.proofs.Images.{applied-append}
 use Rattle.tree_model.proofs.Parts.{of_user}
 use Rattle.tree_model.proofs.Touch.{same-other}
 use Rattle.key_ring.specs.Ring.{key_of}
-use Rattle.key_ring.proofs.Owners.{others-keys}
+use Rattle.key_ring.proofs.Owners.{others-keys, others-stay}
 use Rattle.keystore_model.specs.declared.entry.StoreEntry.{StoreEntry}
 use Rattle.journal_model.specs.declared.commands.Actor.{Actor}
 use Rattle.journal_model.specs.declared.commands.Actor.TheVariants.{User}
@@ -23,9 +23,9 @@ use Rattle.user_world.specs.declared.changes.LocalChange.{LocalChange}
 use Rattle.task_turns.specs.declared.calls.Answer.{Answer}
 use Rattle.task_turns.specs.declared.calls.Call.{Call}
 use Rattle.task_turns.specs.declared.calls.Call.TheVariants.{Op as OpCall, Sync, List as ListCall, Read}
-use Rattle.task_turns.specs.declared.calls.Call.TheVariants.{Generate, Encrypt, Entries, Add}
+use Rattle.task_turns.specs.declared.calls.Call.TheVariants.{Generate, Encrypt, Entries, Add, Remove}
 use Rattle.task_turns.specs.declared.next.Next.TheVariants.{Call as CallNext}
-use Rattle.task_turns.specs.Turns.{CallStands}
+use Rattle.task_turns.specs.Turns.{seen_of, CallStands}
 use Rattle.bench.specs.declared.made.Made.{Made}
 use Rattle.bench.specs.declared.made.Made.TheVariants.{Heard, Failed}
 use Rattle.bench.specs.Bench.{Plain as Seen, Rests, Does, IsFailed, IsFailedOp, IsMade}
@@ -96,6 +96,7 @@ module _ (before after : Seen) (owner other : ℕ) (differ : other ≢ owner) wh
   IsOwn (OpCall at op names) = at ≡ owner
   IsOwn (Generate tag app_id) = tag.user ≡ owner
   IsOwn (Add at class key) = at ≡ owner
+  IsOwn (Remove at class) = at ≡ owner
   IsOwn call = Unit {0}
 
   spare-done : (call : Call) (answer : Answer) → IsOwn call → Does before after call answer
@@ -129,6 +130,12 @@ module _ (before after : Seen) (owner other : ℕ) (differ : other ≢ owner) wh
     keys = ap (λ b. key_of b.keys other) does.1
         ∙ others-keys before.keys at class key other (λ same. differ (same ∙ own));
   }
+  spare-done (Remove at class) answer own does = record {
+    places = same-tree other _ _ (ap (λ b. view b.disk) does.1);
+    entries = ap (λ b. entries_of other b.store.entries) does.1;
+    keys = ap (λ b. key_of b.keys other) does.1
+        ∙ others-stay before.keys at class other (λ same. differ (same ∙ own));
+  }
 
   spare-undone : (call : Call) → IsOwn call → IsFailed before after call → SpareFor other before after
   spare-undone (OpCall at op names) own failed =
@@ -140,6 +147,7 @@ module _ (before after : Seen) (owner other : ℕ) (differ : other ≢ owner) wh
   spare-undone (Encrypt blob app_id nonce key) own failed = spare-rests other before after failed
   spare-undone Entries own failed = spare-rests other before after failed
   spare-undone (Add at class key) own failed = spare-rests other before after failed
+  spare-undone (Remove at class) own failed = spare-rests other before after failed
 
   spare-made : (call : Call) (made : Made) → IsOwn call → IsMade before after call (Ok made)
       → SpareFor other before after
@@ -161,7 +169,8 @@ module _ (book : Plain) (actor : Actor) (owner other : ℕ) (mine : actor ≡ Us
           of-owner : (rest_of task).user ≡ owner
           of-owner = same_user _ owner (sym stands.of_user ∙ plans.on.own ∙ mine)
 
-          own : (c : Call) → CallStands tasks task (scene_of (user_of task) (ground_of book) plans.on.began) c change
+          own : (c : Call)
+              → CallStands (seen_of tasks task) (scene_of (user_of task) (ground_of book) plans.on.began) c change
               → IsOwn book.bench bench owner other differ c
           own (OpCall at op names) stands = stands.mine ∙ of-owner
           own (Generate tag app_id) stands = stands.tagged ∙ of-owner
@@ -171,6 +180,7 @@ module _ (book : Plain) (actor : Actor) (owner other : ℕ) (mine : actor ≡ Us
           own (Encrypt blob app_id nonce key) stands = tt
           own Entries stands = tt
           own (Add at class key) stands = stands.mine ∙ of-owner
+          own (Remove at class) stands = stands.mine ∙ of-owner
       by (Recovers recovery) stands shows =
           absurd (not_boot owner (sym (ap actor_of stands.0.command) ∙ plans.on.own ∙ mine))
       by (Refusal reply) stands shows = cc

@@ -17,10 +17,11 @@ use Rattle.user_world.specs.OwnWorlds.{own_view}
 use Rattle.user_world.specs.Timelines.{own_of}
 use Rattle.user_world.proofs.Timelines.{view-shown}
 use Rattle.step_core.specs.Table.{NamedPlaces}
-use Rattle.task_turns.specs.Turns.{WorkShows}
+use Rattle.task_turns.specs.Turns.{seen_of, WorkShows}
 use Rattle.bench.specs.Bench.{KnowsPlaces}
 use Rattle.user_tasks.specs.Clearing.{IsNextToClear}
-use Rattle.user_tasks.specs.Tasks.{UserTask, tasks, user_of}
+use Rattle.user_tasks.specs.declared.tasks.UserTask.{UserTask}
+use Rattle.user_tasks.specs.Tasks.{tasks, user_of}
 use Rattle.vold_book.specs.declared.plans.Plan.{Plan}
 use Rattle.vold_book.specs.declared.plans.Planned.{Planned}
 use Rattle.vold_book.specs.declared.tasks.Running.{Running}
@@ -81,7 +82,7 @@ module _ (book : Plain) (whole : Whole book) (actor : Actor) (number : ℕ) (tas
   }
   planned-by site plan (Some now) first plans =
       let scene = scene_of (user_of task) (ground_of book) on.began in
-      let shows : WorkShows tasks task scene plans.job =
+      let shows : WorkShows (seen_of tasks task) scene plans.job =
       plans.asks scene (whole.worlds.images (user_of task)) (clear (user_of task) site first) on.stands in
       let heard = (heard-stands (ground_of book) actor on.began task plans.job on.stands shows).stands in
       let rests : TaskStands (ground_of book) (Using now) on.began =

@@ -1,7 +1,7 @@
 -- A turn that gives a reply keeps a Book whole.
 use Rattle.std.proofs.Common.{◌≡◌, ◌≢◌, ℕ, ◌+◌, inl, inr, [], ◌∷◌, ◌++◌, refl, sym, ap, ◌∙◌, subst}
 use Rattle.std.proofs.lemmas.Option.{none-some, same_Some}
-use Rattle.std.specs.Prelude.{◌⊎◌, Some, None, IsSome, IsSomeAnd, Contains, slice_get}
+use Rattle.std.specs.Prelude.{◌⊎◌, Bool, Some, None, is_some, IsSomeAnd, Contains, slice_get}
 use Rattle.std.specs.Cmp.{nat_cmp_total}
 use Rattle.std.specs.FinMap as map
 use Rattle.std.specs.FinMap.{nat_cmp-IsAntisymmetric}
@@ -96,9 +96,10 @@ module _ (book : Plain) (actor : Actor) (it : Running) (now : Task) (reply : Rep
   durable-down down =
       (subst (λ phase. PhaseStands phase book machine) (sym whole.agrees.phase ∙ down) whole.phase).0
 
-  -- the machine knows of a key in the ring
-  key-shown : (user : ℕ) (class : Class) → IsSome (key_of book.bench.keys user class) → HasKey machine user class
-  key-shown user class has =
+  -- the machine knows whether a key is in the ring
+  key-shown : (user : ℕ) (class : Class) (there : Bool) → is_some (key_of book.bench.keys user class) ≡ there
+      → HasKey machine user class there
+  key-shown user class there has =
       ap (λ all. has_owner all user class) whole.ring.owned ∙ found book.bench.keys user class ∙ has
 
   -- whatever the task, the reply may be given
@@ -119,7 +120,8 @@ module _ (book : Plain) (actor : Actor) (it : Running) (now : Task) (reply : Rep
                 (logged-shown user _ line whole.worlds.shows (local_of change) logged.1))
                 (λ of durable. subst (IsDurable machine) (sym durable.0)
                 (durable-shown user _ line whole.worlds.shows durable.1))
-                (λ owner class has. subst (λ o. HasKey machine o class) (sym has.0) (key-shown user class has.1))
+                (λ owner class there has. subst (λ o. HasKey machine o class there) (sym has.0)
+                (key-shown user class there has.1))
                 machine.boot began began.command reply shows.may));
             goes = inl (user-stays machine.phase user began.command reply stands.of_user);
           }

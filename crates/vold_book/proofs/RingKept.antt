@@ -17,12 +17,14 @@ use Rattle.tree_model.specs.Parts.{Part, has_device, renaming_local, local_kind,
 use Rattle.tree_model.specs.Tree.{Kind, Create as Creates, Add as Adds, Drop as Drops, Settle as Settles, kind_if}
 use Rattle.tree_model.specs.Tree.{Destroy as Destroys}
 use Rattle.tree_model.proofs.Maps.{get-insert_other}
-use Rattle.key_ring.specs.Ring.{Ring, owners, key_of, installed, with_owner}
-use Rattle.key_ring.proofs.Rings.{found-added, others-added}
-use Rattle.key_ring.proofs.Owners.{added, decide-owner}
+use Rattle.tree_model.proofs.Logic.{is_none}
+use Rattle.key_ring.specs.Ring.{Ring, IsRing, owners, key_of, installed, removed, with_owner, without_owner}
+use Rattle.key_ring.proofs.Rings.{found-added, others-added, gone-removed, others-removed}
+use Rattle.key_ring.proofs.Rings.{ring-added as ring-grown, ring-removed as ring-shrunk}
+use Rattle.key_ring.proofs.Owners.{added, taken, decide-owner}
 use Rattle.journal_model.specs.declared.commands.Actor.{Actor}
 use Rattle.journal_model.specs.declared.entries.Entry.{Entry}
-use Rattle.journal_model.specs.declared.entries.Entry.TheVariants.{Changed, Synced, Installed}
+use Rattle.journal_model.specs.declared.entries.Entry.TheVariants.{Changed, Synced, Installed, Evicted}
 use Rattle.journal_model.specs.Machine.{Machine, after_entry, machine_after}
 use Rattle.journal_model.specs.Users.{no_users, fold_changes}
 use Rattle.journal_model.proofs.Folds.{folded-append}
@@ -39,14 +41,15 @@ use Rattle.key_directory.proofs.Present.{there-user}
 use Rattle.task_turns.specs.declared.calls.Answer.{Answer}
 use Rattle.task_turns.specs.declared.calls.Call.{Call}
 use Rattle.task_turns.specs.declared.calls.Call.TheVariants.{Op, Sync, List as ListCall, Read}
-use Rattle.task_turns.specs.declared.calls.Call.TheVariants.{Generate, Encrypt, Entries, Add}
+use Rattle.task_turns.specs.declared.calls.Call.TheVariants.{Generate, Encrypt, Entries, Add, Remove}
 use Rattle.task_turns.specs.declared.next.Next.TheVariants.{Call as CallNext}
-use Rattle.task_turns.specs.Turns.{IsGiven, CallStands}
+use Rattle.task_turns.specs.Turns.{seen_of, IsGiven, CallStands}
 use Rattle.bench.specs.declared.made.Made.{Made}
 use Rattle.bench.specs.declared.made.Made.TheVariants.{Heard, Failed}
 use Rattle.bench.specs.Bench.{Plain as Seen, Does, IsMade}
 use Rattle.bench.proofs.Failures.{failed-keys}
-use Rattle.user_tasks.specs.Tasks.{UserTask, tasks, user_of}
+use Rattle.user_tasks.specs.declared.tasks.UserTask.{UserTask}
+use Rattle.user_tasks.specs.Tasks.{tasks, user_of}
 use Rattle.vold_book.specs.declared.tasks.Running.{Running}
 use Rattle.vold_book.specs.declared.tasks.Task.{Task}
 use Rattle.vold_book.specs.declared.tasks.Task.TheVariants.{User as Using, Recovery as Recovers, Refusal, Fault}
@@ -63,6 +66,7 @@ use Rattle.vold_book.proofs.Moves.{after_of, machine_then}
 pub ring-same : (seed : List ℕ) (keys : Ring) (machine machine' : Machine) → machine'.ring ≡ machine.ring
     → machine'.log ≡ machine.log → RingStands seed keys machine → RingStands seed keys machine'
 ring-same seed keys machine machine' ring log stands = record {
+  once = stands.once;
   owned = ring ∙ stands.owned;
   made = λ user class key at. subst (λ l. IsMadeKey seed (fold_changes l) user class key) (sym log)
       (stands.made user class key at);
@@ -70,7 +74,8 @@ ring-same seed keys machine machine' ring log stands = record {
 
 -- a machine with nothing in the ring
 pub ring-empty : (seed : List ℕ) (machine : Machine) → machine.ring ≡ [] → RingStands seed [] machine
-ring-empty seed machine none = record { owned = none; made = λ user class key at. absurd (none-some key at) }
+ring-empty seed machine none =
+    record { once = tt; owned = none; made = λ user class key at. absurd (none-some key at) }
 
 -- an entry that leaves ring and changes, and one that empties the ring
 module _ (book : Plain) (entry : Entry) where
@@ -133,10 +138,6 @@ makes-unborn part (RenameDir from to) fits is = renames-unborn part from to fits
 makes-unborn part (RemoveFile site file) fits is = absurd fits
 makes-unborn part (RemoveDir site) fits is = absurd (removes-none part site is)
 
-absent : {A : Type 0} (found : Option A) → is_some found ≡ false → found ≡ None
-absent None is = refl
-absent (Some a) is = cc
-
 module _ (book : Plain) (whole : Whole book) (number : ℕ) (bench : Seen) where
   abbrev machine : Machine
   machine = machine_of book
@@ -160,7 +161,7 @@ module _ (book : Plain) (whole : Whole book) (number : ℕ) (bench : Seen) where
       (record { op = op; note = Some change }) []
       → map.get (fold_changes machine.log) user ≡ None
   unborn user op (Born birth) step =
-      absent (map.get (fold_changes machine.log) user)
+      is_none (map.get (fold_changes machine.log) user)
       (sym (there-user (vault_of book.seed book.bench.store) line user whole.worlds)
       ∙ ap (λ part. is_some (part De)) (sym (view-shown user _ line whole.worlds.shows))
       ∙ makes-unborn (own_view (own_of user line)) op step.fits step.noted)
@@ -169,6 +170,7 @@ module _ (book : Plain) (whole : Whole book) (number : ℕ) (bench : Seen) where
   ring-changed : (user : ℕ) (change : LocalChange) → map.get (fold_changes machine.log) user ≡ None
       → bench.keys ≡ book.bench.keys → RingThen (Some (Changed number (change_of user change)))
   ring-changed user (Born birth) none same = record {
+    once = subst IsRing (sym same) whole.ring.once;
     owned = whole.ring.owned ∙ ap owners (sym same);
     made = λ other class key at.
         let old = whole.ring.made other class key (ap (λ keys. key_of keys other class) (sym same) ∙ at) in
@@ -193,6 +195,7 @@ module _ (book : Plain) (whole : Whole book) (number : ℕ) (bench : Seen) where
   ring-added : (user : ℕ) (class : Class) (key : List ℕ) → IsGiven (share_of user (ground_of book)) user class key
       → bench.keys ≡ installed book.bench.keys user class key → RingThen (Some (Installed user class))
   ring-added user class key given more = record {
+    once = subst IsRing (sym more) (ring-grown user class key book.bench.keys whole.ring.once);
     owned = ap (λ all. with_owner all user class) whole.ring.owned
         ∙ sym (added book.bench.keys user class key) ∙ ap owners (sym more);
     made = λ other kind found at.
@@ -213,9 +216,28 @@ module _ (book : Plain) (whole : Whole book) (number : ℕ) (bench : Seen) where
         ];
   }
 
+  -- a key leaves
+  ring-taken : (user : ℕ) (class : Class) → bench.keys ≡ removed book.bench.keys user class
+      → RingThen (Some (Evicted user class))
+  ring-taken user class less = record {
+    once = subst IsRing (sym less) (ring-shrunk user class book.bench.keys whole.ring.once);
+    owned = ap (λ all. without_owner all user class) whole.ring.owned
+        ∙ sym (taken book.bench.keys user class) ∙ ap owners (sym less);
+    made = λ other kind found at.
+        let now : key_of (removed book.bench.keys user class) other kind ≡ Some found =
+        ap (λ keys. key_of keys other kind) (sym less) ∙ at in
+        elim (decide-owner (other, kind) (user, class)) [
+          | inl same ↦ absurd (none-some found
+              (sym (gone-removed user class book.bench.keys whole.ring.once)
+              ∙ ap (λ owner. key_of (removed book.bench.keys user class) owner.0 owner.1) (sym same) ∙ now))
+          | inr differ ↦ whole.ring.made other kind found
+              (sym (others-removed user class book.bench.keys (other, kind) differ) ∙ now)
+        ];
+  }
+
   -- a call of a user's task that was done
   user-rings : (task : UserTask) (began : _) (call : Call) (change : Option LocalChange) (answer : Answer)
-      → CallStands tasks task (scene_of (user_of task) (ground_of book) began) call change
+      → CallStands (seen_of tasks task) (scene_of (user_of task) (ground_of book) began) call change
       → Does book.bench bench call answer → RingThen (entry_of number call change)
   user-rings task began (Op owner op names) change answer stands does =
       subst (λ u. RingThen (entry_of number (Op u op names) change)) (sym stands.mine)
@@ -227,6 +249,8 @@ module _ (book : Plain) (whole : Whole book) (number : ℕ) (bench : Seen) where
   user-rings task began (Add owner class key) change answer stands does =
       subst (λ u. bench.keys ≡ installed book.bench.keys u class key → RingThen (Some (Installed u class)))
       (sym stands.mine) (ring-added (user_of task) class key stands.given) (ap (λ b. b.keys) does.1)
+  user-rings task began (Remove owner class) change answer stands does =
+      ring-taken owner class (ap (λ b. b.keys) does.1)
   user-rings task began ListCall change answer stands does = absurd stands
   user-rings task began (Read place) change answer stands does = absurd stands
   user-rings task began Entries change answer stands does = absurd stands
@@ -242,6 +266,7 @@ module _ (book : Plain) (whole : Whole book) (number : ℕ) (bench : Seen) where
   recovery-rings recovery (Generate tag app_id) answer calls does = absurd calls
   recovery-rings recovery (Encrypt blob app_id nonce key) answer calls does = absurd calls
   recovery-rings recovery (Add user class key) answer calls does = absurd calls
+  recovery-rings recovery (Remove user class) answer calls does = absurd calls
 
 module _ (book : Plain) (actor : Actor) (it : Running) (making : Making) (whole : Whole book)
     (plans : Plans book actor it making.task (CallNext making.call making.change)) where

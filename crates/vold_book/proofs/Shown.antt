@@ -30,13 +30,14 @@ use Rattle.task_turns.specs.declared.calls.Answer.{Answer}
 use Rattle.task_turns.specs.declared.calls.Answer.TheVariants.{Blob as IsBlob, Sealed}
 use Rattle.task_turns.specs.declared.calls.Call.{Call}
 use Rattle.task_turns.specs.declared.calls.Call.TheVariants.{Op as OpCall, Sync, List as ListCall, Read}
-use Rattle.task_turns.specs.declared.calls.Call.TheVariants.{Generate, Encrypt, Entries, Add}
+use Rattle.task_turns.specs.declared.calls.Call.TheVariants.{Generate, Encrypt, Entries, Add, Remove}
 use Rattle.task_turns.specs.declared.next.Next.TheVariants.{Call as CallNext, Reply as ReplyNext}
-use Rattle.task_turns.specs.Turns.{Scene, Cost, cost_of, no_cost, CallStands}
+use Rattle.task_turns.specs.Turns.{seen_of, Scene, Cost, cost_of, no_cost, CallStands}
 use Rattle.bench.specs.declared.made.Made.{Made}
 use Rattle.bench.specs.declared.made.Made.TheVariants.{Heard, Failed}
 use Rattle.bench.specs.Bench.{Plain as Seen, Does, IsMade, device_of, was_done, places_after}
-use Rattle.user_tasks.specs.Tasks.{UserTask, tasks, user_of, rest_of}
+use Rattle.user_tasks.specs.declared.tasks.UserTask.{UserTask}
+use Rattle.user_tasks.specs.Tasks.{tasks, user_of, rest_of}
 use Rattle.vold_book.specs.declared.recovery.Recovery.{Recovery}
 use Rattle.vold_book.specs.declared.recovery.Recovery.TheVariants.{Listing, Sweeping, Reading, Settled, Listed}
 use Rattle.vold_book.specs.declared.tasks.Held.{Held}
@@ -119,7 +120,7 @@ record UserFalls (task then : UserTask) (cost : Cost) : Type 0 where
 module _ (before after : Seen) (store : IsStore before.store) (task : UserTask) (scene : Scene)
     (change : Option LocalChange) (answer : Answer) (whole : HearsWhole (Heard answer)) where
   user-falls : (call : Call) → scene.share.vault.entries ≡ before.store.entries
-      → CallStands tasks task scene call change → Does before after call answer
+      → CallStands (seen_of tasks task) scene call change → Does before after call answer
       → UserFalls task (tasks.after task answer) (cost_of call)
   user-falls (OpCall owner op names) same stands does =
       subst (λ a. UserFalls task (tasks.after task a) (cost_of (OpCall owner op names))) (sym does.0) (record {
@@ -155,6 +156,12 @@ module _ (before after : Seen) (store : IsStore before.store) (task : UserTask) 
         draws = stands.1.leads.draws;
       })
   user-falls (Add owner class key) same stands does =
+      subst (λ a. UserFalls task (tasks.after task a) no_cost) (sym does.0) (record {
+        turns = stands.leads.falls;
+        makes = stands.leads.makes;
+        draws = stands.leads.draws;
+      })
+  user-falls (Remove owner class) same stands does =
       subst (λ a. UserFalls task (tasks.after task a) no_cost) (sym does.0) (record {
         turns = stands.leads.falls;
         makes = stands.leads.makes;
@@ -251,6 +258,7 @@ module _ (book : Plain) (after : Seen) (recovery : Recovery) (answer : Answer)
   recovery-falls (Generate tag app_id) shows does = absurd shows
   recovery-falls (Encrypt blob app_id nonce key) shows does = absurd shows
   recovery-falls (Add user class key) shows does = absurd shows
+  recovery-falls (Remove user class) shows does = absurd shows
   recovery-falls Entries shows does =
       comes-falls book.bench.places after.places recovery answer lasts Entries book.bench.places
       (ap (λ b. b.places) does.1.2) (shows.comes does.1.0 does.1.1).falls refl refl (omega arith)
@@ -292,7 +300,7 @@ module _ (book : Plain) (began : Began) (call : Call) (change : Option LocalChan
           lists = omega (arith, none);
         })
       where
-        lists-none : (scene : Scene) (task : UserTask) (c : Call) → CallStands tasks task scene c change
+        lists-none : (scene : Scene) (task : UserTask) (c : Call) → CallStands (seen_of tasks task) scene c change
             → lists_done c ≡ 0
         lists-none scene task (OpCall owner op names) stands = refl
         lists-none scene task Sync stands = refl
@@ -301,6 +309,7 @@ module _ (book : Plain) (began : Began) (call : Call) (change : Option LocalChan
         lists-none scene task (Generate tag app_id) stands = refl
         lists-none scene task (Encrypt blob app_id nonce key) stands = refl
         lists-none scene task (Add owner class key) stands = refl
+        lists-none scene task (Remove owner class) stands = refl
         lists-none scene task Entries stands = absurd stands
     heard-falls answer (Recovers recovery) then whole shows does is =
         subst (CallFalls book.bench.places after.places call (Heard answer) (Recovers recovery)) (sym is)

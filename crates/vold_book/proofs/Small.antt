@@ -37,7 +37,7 @@ use Rattle.step_core.specs.Table.{NamedPlaces}
 use Rattle.task_turns.specs.declared.calls.Answer.{Answer}
 use Rattle.task_turns.specs.declared.calls.Call.{Call}
 use Rattle.task_turns.specs.declared.calls.Call.TheVariants.{Op as OpCall, Sync, List as ListCall, Read}
-use Rattle.task_turns.specs.declared.calls.Call.TheVariants.{Generate, Encrypt, Entries, Add}
+use Rattle.task_turns.specs.declared.calls.Call.TheVariants.{Generate, Encrypt, Entries, Add, Remove}
 use Rattle.task_turns.specs.Turns.{cost_of}
 use Rattle.bench.specs.declared.made.Made.{Made}
 use Rattle.bench.specs.declared.made.Made.TheVariants.{Heard, Failed}
@@ -199,6 +199,7 @@ module _ (before after : Seen) where
   adds-failed (Encrypt blob app_id nonce key) failed = adds-rests failed
   adds-failed Entries failed = adds-rests failed
   adds-failed (Add user class key) failed = adds-rests failed
+  adds-failed (Remove user class) failed = adds-rests failed
 
   adds-done : (call : Call) (answer : Answer) → length before.store.entries ≤ max_places
       → Does before after call answer
@@ -238,6 +239,9 @@ module _ (before after : Seen) where
       adds-none before after (ap (λ b. b.disk) does.1) (ap (λ b. b.store) does.1) (ap (λ b. b.list.next) does.1)
       (ap (λ b. b.list.promised) does.1)
   adds-done (Add user class key) answer few does =
+      adds-none before after (ap (λ b. b.disk) does.1) (ap (λ b. b.store) does.1) (ap (λ b. b.list.next) does.1)
+      (ap (λ b. b.list.promised) does.1)
+  adds-done (Remove user class) answer few does =
       adds-none before after (ap (λ b. b.disk) does.1) (ap (λ b. b.store) does.1) (ap (λ b. b.list.next) does.1)
       (ap (λ b. b.list.promised) does.1)
   adds-done Entries answer few does = record {

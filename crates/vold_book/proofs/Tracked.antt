@@ -12,13 +12,13 @@ use Rattle.tree_model.specs.Disk.{Disk, view}
 use Rattle.tree_model.specs.Sites.{op_of}
 use Rattle.journal_model.specs.declared.entries.Change.{Change}
 use Rattle.journal_model.specs.declared.entries.Entry.{Entry}
-use Rattle.journal_model.specs.declared.entries.Entry.TheVariants.{Began, Changed, Synced, Installed}
+use Rattle.journal_model.specs.declared.entries.Entry.TheVariants.{Began, Changed, Synced, Installed, Evicted}
 use Rattle.journal_model.specs.declared.entries.Entry.TheVariants.{Stopped, Restarted, Replied}
 use Rattle.journal_model.specs.Machine.{Machine, after_entry, machine_from, machine_after, first_machine}
 use Rattle.task_turns.specs.declared.calls.Answer.{Answer}
 use Rattle.task_turns.specs.declared.calls.Call.{Call}
 use Rattle.task_turns.specs.declared.calls.Call.TheVariants.{Op as OpCall, Sync, List as ListCall, Read}
-use Rattle.task_turns.specs.declared.calls.Call.TheVariants.{Generate, Encrypt, Entries, Add}
+use Rattle.task_turns.specs.declared.calls.Call.TheVariants.{Generate, Encrypt, Entries, Add, Remove}
 use Rattle.tree_model.specs.declared.blobs.Blob.{Blob}
 use Rattle.bench.specs.declared.made.Made.{Made}
 use Rattle.bench.specs.declared.made.Made.TheVariants.{Heard, Failed}
@@ -97,6 +97,7 @@ module _ (before after : Seen) (tracker : TrackerState)
   done-pending (Encrypt blob app_id nonce key) answer change told done = same_disk (ap (λ b. b.disk) done.1)
   done-pending Entries answer change told done = same_disk (ap (λ b. b.disk) done.1.2)
   done-pending (Add user class key) answer change told done = same_disk (ap (λ b. b.disk) done.1)
+  done-pending (Remove user class) answer change told done = same_disk (ap (λ b. b.disk) done.1)
 
   failed-pending : (call : Call) (change : Bool) → IsFailed before after call
       → (noted false call change tracker).pending ≡ changes_made after.disk.stable after.disk.pending
@@ -108,6 +109,7 @@ module _ (before after : Seen) (tracker : TrackerState)
   failed-pending (Encrypt blob app_id nonce key) change failed = same_disk (ap (λ b. b.disk) failed)
   failed-pending Entries change failed = same_disk (ap (λ b. b.disk) failed)
   failed-pending (Add user class key) change failed = same_disk (ap (λ b. b.disk) failed)
+  failed-pending (Remove user class) change failed = same_disk (ap (λ b. b.disk) failed)
 
   -- the pending operations follow a call, whether the device did it or failed
   pub pending-noted : (call : Call) (change : Bool) (made : Made) → ChangeIsTold (view before.disk) call change
@@ -132,6 +134,7 @@ noted-stays true (Generate tag app_id) change tracker = record { phase = refl; b
 noted-stays true (Encrypt blob app_id nonce key) change tracker = record { phase = refl; boot = refl; level = refl }
 noted-stays true Entries change tracker = record { phase = refl; boot = refl; level = refl }
 noted-stays true (Add user class key) change tracker = record { phase = refl; boot = refl; level = refl }
+noted-stays true (Remove user class) change tracker = record { phase = refl; boot = refl; level = refl }
 noted-stays false (OpCall user (MakeDir site) names) change tracker =
     record { phase = refl; boot = refl; level = refl }
 noted-stays false (OpCall user (Write site file bytes) names) change tracker =
@@ -151,6 +154,7 @@ noted-stays false (Generate tag app_id) change tracker = record { phase = refl; 
 noted-stays false (Encrypt blob app_id nonce key) change tracker = record { phase = refl; boot = refl; level = refl }
 noted-stays false Entries change tracker = record { phase = refl; boot = refl; level = refl }
 noted-stays false (Add user class key) change tracker = record { phase = refl; boot = refl; level = refl }
+noted-stays false (Remove user class) change tracker = record { phase = refl; boot = refl; level = refl }
 
 -- a failed call leaves what is durable
 pub failed-durable : (call : Call) (change : Bool) (tracker : TrackerState)
@@ -168,6 +172,7 @@ failed-durable (Generate tag app_id) change tracker = refl
 failed-durable (Encrypt blob app_id nonce key) change tracker = refl
 failed-durable Entries change tracker = refl
 failed-durable (Add user class key) change tracker = refl
+failed-durable (Remove user class) change tracker = refl
 
 shorter : (n : ℕ) (changes : List Change) → length (take n changes) ≤ length changes
 shorter zero changes = omega arith
@@ -180,6 +185,7 @@ log-entry before machine (Began n a c) = omega arith
 log-entry before machine (Changed n change) = omega (arith, length-append machine.log (change ∷ []))
 log-entry before machine Synced = omega arith
 log-entry before machine (Installed user class) = omega arith
+log-entry before machine (Evicted user class) = omega arith
 log-entry before machine (Stopped kept) = let short = shorter kept machine.log in omega (arith, short)
 log-entry before machine (Restarted boot level) = omega arith
 log-entry before machine (Replied n reply) = omega arith

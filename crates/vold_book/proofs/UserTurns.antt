@@ -18,8 +18,8 @@ use Rattle.tree_model.specs.Parts.{part_of, LocalFits}
 use Rattle.tree_model.specs.Sites.{op_of}
 use Rattle.tree_model.proofs.Maps.{get-insert_same, get-insert_other}
 use Rattle.tree_model.specs.declared.places.Class.{Class}
-use Rattle.key_ring.specs.Ring.{key_of, installed}
-use Rattle.key_ring.proofs.Owners.{others-keys, keys-added}
+use Rattle.key_ring.specs.Ring.{Owner, Ring, key_of, installed, removed, with_owner, without_owner}
+use Rattle.key_ring.proofs.Owners.{others-keys, keys-added, others-stay, keys-removed}
 use Rattle.journal_model.specs.declared.commands.Actor.{Actor}
 use Rattle.journal_model.specs.declared.commands.Actor.TheVariants.{Boot, User}
 use Rattle.journal_model.specs.declared.entries.Entry.TheVariants.{Changed}
@@ -27,7 +27,7 @@ use Rattle.journal_model.specs.declared.phase.Phase.{Phase}
 use Rattle.journal_model.specs.declared.phase.Phase.TheVariants.{Up, Down}
 use Rattle.journal_model.specs.Command.{actor_of}
 use Rattle.journal_model.specs.Machine.{Machine, Running as BeganCommand, after_entry}
-use Rattle.journal_model.specs.Machine.{if_running, with_change, AllowsChange, Installs}
+use Rattle.journal_model.specs.Machine.{if_running, with_change, AllowsChange, Installs, Evicts}
 use Rattle.user_world.specs.declared.changes.LocalChange.{LocalChange}
 use Rattle.user_world.specs.Changes.{change_of, if_noted}
 use Rattle.user_world.specs.Facts.{Later}
@@ -50,19 +50,20 @@ use Rattle.key_directory.specs.Vaults.{Vault, sealed, KeepsEntry, Later as Vault
 use Rattle.task_turns.specs.declared.calls.Answer.{Answer}
 use Rattle.task_turns.specs.declared.calls.Call.{Call}
 use Rattle.task_turns.specs.Shares.{AllHas, AreHeld}
-use Rattle.task_turns.specs.Turns.{Rests, AllOwned, Scene, Leads, cost_of, OpShows, SyncShows, GenerateShows}
-use Rattle.task_turns.specs.Turns.{EncryptShows, AddShows}
+use Rattle.task_turns.specs.Turns.{seen_of, Rests, AllOwned, Scene, Leads, cost_of, OpShows, SyncShows, GenerateShows}
+use Rattle.task_turns.specs.Turns.{EncryptShows, AddShows, RemoveShows, no_cost}
 use Rattle.task_turns.specs.Turns.{operated, IsOwned, BlobShows, CallShows}
 use Rattle.task_turns.specs.declared.calls.Answer.TheVariants.{Done, Blob as IsBlob, Sealed}
 use Rattle.task_turns.specs.declared.calls.Call.TheVariants.{Op as OpCall, Sync, Generate, Encrypt}
-use Rattle.task_turns.specs.declared.calls.Call.TheVariants.{List as ListCall, Read, Entries, Add}
+use Rattle.task_turns.specs.declared.calls.Call.TheVariants.{List as ListCall, Read, Entries, Add, Remove}
 use Rattle.task_turns.proofs.Lasting.{facts-last}
 use Rattle.bench.specs.declared.made.Made.TheVariants.{Heard, Failed}
 use Rattle.bench.specs.Bench.{Plain as Seen, Does, Fits, IsFailed, IsFailedOp, IsMade, Rests as AllRests, places_after}
 use Rattle.bench.specs.Seen.{AnswersWhole}
 use Rattle.journal_model.specs.declared.entries.Device.{Device}
 use Rattle.bench.specs.Known.{Knows, IsLasting}
-use Rattle.user_tasks.specs.Tasks.{UserTask, tasks, user_of, rest_of}
+use Rattle.user_tasks.specs.declared.tasks.UserTask.{UserTask}
+use Rattle.user_tasks.specs.Tasks.{tasks, user_of, rest_of}
 use Rattle.vold_book.specs.declared.tasks.Held.{Held}
 use Rattle.vold_book.specs.declared.tasks.Running.{Running}
 use Rattle.vold_book.specs.declared.tasks.Task.{Task}
@@ -75,6 +76,7 @@ use Rattle.vold_book.specs.Tasks.{TaskStands, RunsOn, HoldsOwn, blobs_in, scene_
 use Rattle.vold_book.specs.Whole.{PhaseStands, Whole}
 use Rattle.vold_book.proofs.Moves.{After, after_of, Moves, machine_then, ground_then, holds-on}
 use Rattle.vold_book.proofs.Numbers.{IsQuiet, quiet-changed, quiet-synced, quiet-installed}
+use Rattle.vold_book.proofs.Numbers.{quiet-evicted}
 use Rattle.vold_book.proofs.StepsMade.{Keeps, same-line, step-fits, step-told, step-failed, failed-disk, all-changes}
 use Rattle.vold_book.proofs.Tracked.{ChangeIsTold, pending-noted, noted-stays, failed-durable}
 use Rattle.bench.proofs.Failures.{failed-keys}
@@ -153,6 +155,43 @@ at-one blobs blob b is one = elim (Contains-cases blob [] b one) [
   | inl same ↦ subst (Contains blobs) same is
   | inr none ↦ absurd (Contains-none b none)
 ]
+
+-- what a call leaves that touches the keystore or the ring alone: both, and whose keys the machine has in the ring
+pub record Aside : Type 0 where
+  pub store : Store
+  pub keys : Ring
+  pub owners : List Owner
+
+-- a call of the keystore leaves the ring, and one of the ring the keystore
+counted-too : (before after : Seen) (store : Store)
+    → after ≡ record before { store = store; store_counts = after.store_counts }
+    → after ≡ record before {
+      store = store;
+      store_counts = after.store_counts;
+      keys = before.keys;
+      ring_counts = after.ring_counts;
+    }
+counted-too before after store same =
+    same ∙ ap (λ counts. record before {
+      store = store;
+      store_counts = after.store_counts;
+      ring_counts = counts;
+    }) (sym (ap (λ b. b.ring_counts) same))
+
+added-too : (before after : Seen) (keys : Ring)
+    → after ≡ record before { keys = keys; ring_counts = after.ring_counts }
+    → after ≡ record before {
+      store = before.store;
+      store_counts = after.store_counts;
+      keys = keys;
+      ring_counts = after.ring_counts;
+    }
+added-too before after keys same =
+    same ∙ ap (λ counts. record before {
+      store_counts = counts;
+      keys = keys;
+      ring_counts = after.ring_counts;
+    }) (sym (ap (λ b. b.store_counts) same))
 
 module _ (book : Plain) (actor : Actor) (number : ℕ) (task : UserTask) (whole : Whole book)
     (on : RunsOn (ground_of book) (machine_of book) actor (record { number = number; task = Using task }))
@@ -283,7 +322,7 @@ module _ (book : Plain) (actor : Actor) (number : ℕ) (task : UserTask) (whole 
   heard answer = tasks.after task answer
 
   module _ (names : Option Blob) (op : LocalOp) (note : Option LocalChange)
-      (shows : OpShows tasks task scene user op names note) (bench : Seen)
+      (shows : OpShows (seen_of tasks task) scene user op names note) (bench : Seen)
       (done : bench ≡ record book.bench {
         disk = with_op book.bench.disk (op_of user op);
         tree_counts = bench.tree_counts;
@@ -444,7 +483,7 @@ module _ (book : Plain) (actor : Actor) (number : ℕ) (task : UserTask) (whole 
     op-moves may = leads-move (heard Done) (with_note user on.began note) after (op-leads may)
 
   -- a sync
-  module _ (shows : SyncShows tasks task scene None) (bench : Seen) (done : bench ≡ record book.bench {
+  module _ (shows : SyncShows (seen_of tasks task) scene None) (bench : Seen) (done : bench ≡ record book.bench {
     disk = synced book.bench.disk;
     tree_counts = bench.tree_counts;
     list = record book.bench.list { items = items_noted book.bench.list.items };
@@ -509,39 +548,47 @@ module _ (book : Plain) (actor : Actor) (number : ℕ) (task : UserTask) (whole 
   heard_after call answer bench = after_of book number
       (record { call = call; change = None; task = Using task; then = Using (heard answer) }) (Heard answer) bench
 
-  -- a call of the keystore leaves the disk, the places and the list
-  module _ (call : Call) (answer : Answer) (bench : Seen) (store : Store)
-      (same : bench ≡ record book.bench { store = store; store_counts = bench.store_counts })
+  -- a call of the keystore or of the ring leaves the disk, the places and the list, and of the machine all but whose
+  -- keys are in the ring
+  module _ (call : Call) (answer : Answer) (bench : Seen) (aside : Aside)
+      (same : bench ≡ record book.bench {
+        store = aside.store;
+        store_counts = bench.store_counts;
+        keys = aside.keys;
+        ring_counts = bench.ring_counts;
+      })
       (plain : noted true call false book.tracker ≡ book.tracker)
-      (none : entry_of_call number call None ≡ None) where
-    abbrev store_after : After
-    store_after = heard_after call answer bench
+      (then : machine_with book.ledger.entries machine (entry_of_call number call None)
+      ≡ record machine { ring = aside.owners }) where
+    abbrev aside_after : After
+    aside_after = heard_after call answer bench
 
-    pub record StoreLeads : Type 0 where
-      pub level : store.level ≡ book.bench.store.level
-      pub kept : (blob : Blob) → KeepsEntry (vault_of book.seed book.bench.store) (vault_of book.seed store) blob
-      pub worlds : OwnWorldsStand (sealed (vault_of book.seed store)) line
-      pub leads : Leads tasks task answer scene None (cost_of call)
-          (record { own = own_of user line; vault = vault_of book.seed store; keys = key_of book.bench.keys user })
-      pub owned : AllOwned store.entries user (rest_of (heard answer)).held
+    pub record AsideLeads : Type 0 where
+      pub may : may_with book.ledger.entries machine (entry_of_call number call None)
+      pub quiet : IfSome (entry_of_call number call None) IsQuiet
+      pub level : aside.store.level ≡ book.bench.store.level
+      pub kept : (blob : Blob)
+          → KeepsEntry (vault_of book.seed book.bench.store) (vault_of book.seed aside.store) blob
+      pub keys : (other : ℕ) → other ≢ user → key_of aside.keys other ≡ key_of book.bench.keys other
+      pub worlds : OwnWorldsStand (sealed (vault_of book.seed aside.store)) line
+      pub leads : Leads (seen_of tasks task) answer scene None (cost_of call)
+          (record { own = own_of user line; vault = vault_of book.seed aside.store; keys = key_of aside.keys user })
+      pub owned : AllOwned aside.store.entries user (rest_of (heard answer)).held
       pub differ : Differ (rest_of (heard answer)).held
 
-    module _ (led : StoreLeads) where
-      same-machine : machine_then book store_after ≡ machine
-      same-machine = ap (machine_with book.ledger.entries machine) none
+    module _ (led : AsideLeads) where
+      line-same : timeline bench.disk (machine_then book aside_after) ≡ line
+      line-same = λ i. timeline (ap (λ b. b.disk) same i) (then i)
 
-      line-same : timeline bench.disk (machine_then book store_after) ≡ line
-      line-same = λ i. timeline (ap (λ b. b.disk) same i) (same-machine i)
-
-      store-leads : LeadsOn (heard answer) on.began store_after
-      store-leads = record {
+      aside-leads : LeadsOn (heard answer) on.began aside_after
+      aside-leads = record {
         leaves = record {
-          boot = ap (λ m. m.boot) same-machine;
+          boot = ap (λ m. m.boot) then;
           level = ap (λ b. b.store.level) same ∙ led.level;
           seed = refl;
           kept = λ blob entry live.
               ap (λ b. entry_of b.store.entries blob) same ∙ led.kept blob entry live;
-          keys = λ other differ. ap (λ b. key_of b.keys other) same;
+          keys = λ other differ. ap (λ b. key_of b.keys other) same ∙ led.keys other differ;
           others = λ other differ. inl (ap (own_of other) line-same);
         };
         worlds = subst (λ l. OwnWorldsStand (sealed (vault_of book.seed bench.store)) l) (sym line-same)
@@ -554,20 +601,20 @@ module _ (book : Plain) (actor : Actor) (number : ℕ) (task : UserTask) (whole 
         known = led.leads.known;
         owned = subst (λ b. AllOwned b.store.entries user (rest_of (heard answer)).held) (sym same) led.owned;
         differ = led.differ;
-        at = ap (λ m. map.get m.running number) same-machine ∙ on.at;
-        on_machine = λ n differ. ap (λ m. map.get m.running n) same-machine;
+        at = ap (λ m. map.get m.running number) then ∙ on.at;
+        on_machine = λ n differ. ap (λ m. map.get m.running n) then;
         command = refl;
         verdict = refl;
         serves = led.leads.serves;
         same_user = led.leads.same_user;
         is_task = refl;
-        may = subst (may_with book.ledger.entries machine) (sym none) tt;
-        quiet = subst (λ entry. IfSome entry IsQuiet) (sym none) tt;
+        may = led.may;
+        quiet = led.quiet;
         agrees = record {
-          phase = ap (λ m. m.phase) same-machine ∙ whole.agrees.phase ∙ sym (ap (λ t. t.phase) plain);
-          boot = ap (λ m. m.boot) same-machine ∙ whole.agrees.boot ∙ sym (ap (λ t. t.boot) plain);
-          level = ap (λ m. m.level) same-machine ∙ whole.agrees.level ∙ sym (ap (λ t. t.level) plain);
-          durable = ap (λ m. m.kept) same-machine ∙ whole.agrees.durable ∙ sym (ap (λ t. t.durable) plain);
+          phase = ap (λ m. m.phase) then ∙ whole.agrees.phase ∙ sym (ap (λ t. t.phase) plain);
+          boot = ap (λ m. m.boot) then ∙ whole.agrees.boot ∙ sym (ap (λ t. t.boot) plain);
+          level = ap (λ m. m.level) then ∙ whole.agrees.level ∙ sym (ap (λ t. t.level) plain);
+          durable = ap (λ m. m.kept) then ∙ whole.agrees.durable ∙ sym (ap (λ t. t.durable) plain);
           pending = ap (λ t. t.pending) plain ∙ whole.agrees.pending
               ∙ ap (λ b. changes_made b.disk.stable b.disk.pending) (sym same);
         };
@@ -575,12 +622,20 @@ module _ (book : Plain) (actor : Actor) (number : ℕ) (task : UserTask) (whole 
         knows = subst (λ b. Knows b.places (view b.disk)) (sym same) known;
       }
 
-      pub store-moves : Moves book actor number store_after
-      store-moves = leads-move (heard answer) on.began store_after store-leads
+      pub aside-moves : Moves book actor number aside_after
+      aside-moves = leads-move (heard answer) on.began aside_after aside-leads
+
+  -- a call of the keystore leaves the ring
+  abbrev of_store : Store → Aside
+  of_store store = record { store = store; keys = book.bench.keys; owners = machine.ring }
+
+  -- and one of the ring the keystore
+  abbrev of_ring : Ring → List Owner → Aside
+  of_ring keys owners = record { store = book.bench.store; keys = keys; owners = owners }
 
   -- an entry is made
   module _ (tag : Tag) (app_id : List ℕ) (blob : Blob) (bench : Seen)
-      (shows : GenerateShows tasks task scene tag app_id None) (long : length blob ≡ 32)
+      (shows : GenerateShows (seen_of tasks task) scene tag app_id None) (long : length blob ≡ 32)
       (generated : IsGenerated book.bench.store bench.store tag app_id blob) where
     abbrev then_store : Store
     then_store = generated_store book.bench.store blob tag app_id generated.key
@@ -597,7 +652,7 @@ module _ (book : Plain) (actor : Actor) (number : ℕ) (task : UserTask) (whole 
       | inr differ ↦ entry-push_other entries _ b differ ∙ live
     ]
 
-    abbrev each : BlobShows tasks task scene tag app_id blob generated.key
+    abbrev each : BlobShows (seen_of tasks task) scene tag app_id blob generated.key
     each = shows.each blob generated.key long none
 
     not-held : ¬ (Contains (rest_of task).held blob)
@@ -617,39 +672,43 @@ module _ (book : Plain) (actor : Actor) (number : ℕ) (task : UserTask) (whole 
       })
     ]
 
-    generate-leads : (same : bench ≡ record book.bench { store = then_store; store_counts = bench.store_counts })
-        → StoreLeads (Generate tag app_id) (IsBlob blob) bench then_store same refl refl
-    generate-leads same = record {
-      level = refl;
-      kept = kept;
-      worlds = worlds-later (vault_of book.seed book.bench.store) made_vault line (record {
-        level = omega arith;
-        seed = refl;
-        attempts = λ u. record { additions = λ a is. is; secrets = λ a is. is };
-      }) kept whole.worlds;
-      leads = each.leads;
-      owned = subst (AllOwned then_store.entries user) (sym each.held) owned-now;
-      differ = subst Differ (sym each.held) (differ-push (rest_of task).held blob on.holds.differ not-held);
-    }
-
     pub generate-moves : bench ≡ record book.bench { store = bench.store; store_counts = bench.store_counts }
         → Moves book actor number (heard_after (Generate tag app_id) (IsBlob blob) bench)
     generate-moves same =
         let now : bench ≡ record book.bench { store = then_store; store_counts = bench.store_counts } =
         same ∙ ap (λ s. record book.bench { store = s; store_counts = bench.store_counts }) generated.made in
-        store-moves (Generate tag app_id) (IsBlob blob) bench then_store now refl refl (generate-leads now)
+        aside-moves (Generate tag app_id) (IsBlob blob) bench (of_store then_store)
+        (counted-too book.bench bench then_store now) refl refl (record {
+          may = tt;
+          quiet = tt;
+          level = refl;
+          kept = kept;
+          keys = λ other differ. refl;
+          worlds = worlds-later (vault_of book.seed book.bench.store) made_vault line (record {
+            level = omega arith;
+            seed = refl;
+            attempts = λ u. record { additions = λ a is. is; secrets = λ a is. is };
+          }) kept whole.worlds;
+          leads = each.leads;
+          owned = subst (AllOwned then_store.entries user) (sym each.held) owned-now;
+          differ = subst Differ (sym each.held) (differ-push (rest_of task).held blob on.holds.differ not-held);
+        })
 
   -- a key is sealed
   pub encrypt-moves : (blob : Blob) (app_id nonce key : List ℕ) (bench : Seen)
-      → (shows : EncryptShows tasks task scene blob app_id nonce key)
+      → (shows : EncryptShows (seen_of tasks task) scene blob app_id nonce key)
       → bench ≡ record book.bench { store_counts = bench.store_counts }
       → Moves book actor number (heard_after (Encrypt blob app_id nonce key)
       (Sealed (sealed_text shows.under.entry.key nonce key)) bench)
   encrypt-moves blob app_id nonce key bench shows same =
       let answer = Sealed (sealed_text shows.under.entry.key nonce key) in
-      store-moves (Encrypt blob app_id nonce key) answer bench book.bench.store same refl refl (record {
+      aside-moves (Encrypt blob app_id nonce key) answer bench (of_store book.bench.store)
+      (counted-too book.bench bench book.bench.store same) refl refl (record {
+        may = tt;
+        quiet = tt;
         level = refl;
         kept = λ b entry live. live;
+        keys = λ other differ. refl;
         worlds = whole.worlds;
         leads = shows.leads;
         owned = owned-still (heard answer) (inl shows.held);
@@ -657,69 +716,61 @@ module _ (book : Plain) (actor : Actor) (number : ℕ) (task : UserTask) (whole 
       })
 
   -- a key comes into the ring
-  module _ (class : Class) (key : List ℕ) (shows : AddShows tasks task scene user class key None) (bench : Seen)
-      (done : bench ≡ record book.bench {
+  pub add-moves : (class : Class) (key : List ℕ) (bench : Seen)
+      → AddShows (seen_of tasks task) scene user class key None
+      → bench ≡ record book.bench {
         keys = installed book.bench.keys user class key;
         ring_counts = bench.ring_counts;
-      }) where
-    abbrev add_after : After
-    add_after = heard_after (Add user class key) Done bench
+      }
+      → Moves book actor number (heard_after (Add user class key) Done bench)
+  add-moves class key bench shows same =
+      let keys = installed book.bench.keys user class key in
+      aside-moves (Add user class key) Done bench (of_ring keys (with_owner machine.ring user class))
+      (added-too book.bench bench keys same) refl refl (record {
+        may = (
+          ap is_some (sym (known-shown user _ line whole.worlds.shows) ∙ shows.given.there),
+          (
+            number,
+            subst (λ found. IsSomeAnd found (λ b. (b.verdict ≡ None) × Installs b.command user class))
+                (sym on.at) (on.stands.accepted, shows.may),
+          ),
+        );
+        quiet = quiet-installed user class;
+        level = refl;
+        kept = λ b entry live. live;
+        keys = λ other differ. others-keys book.bench.keys user class key other differ;
+        worlds = whole.worlds;
+        leads = subst (λ found. Leads (seen_of tasks task) Done scene None no_cost
+            (record { own = own_of user line; vault = vault_of book.seed book.bench.store; keys = found }))
+            (sym (λ i kind. keys-added book.bench.keys user class key kind i)) shows.leads;
+        owned = owned-still (heard Done) (inl shows.held);
+        differ = differ-still (heard Done) (inl shows.held);
+      })
 
-    add-line : timeline bench.disk (machine_then book add_after) ≡ line
-    add-line = ap (λ b. timeline b.disk machine) done
-
-    add-leads : LeadsOn (heard Done) on.began add_after
-    add-leads = record {
-      leaves = record {
-        boot = refl;
-        level = ap (λ b. b.store.level) done;
-        seed = refl;
-        kept = λ blob entry live. ap (λ b. entry_of b.store.entries blob) done ∙ live;
-        keys = λ other differ. ap (λ b. key_of b.keys other) done
-            ∙ others-keys book.bench.keys user class key other differ;
-        others = λ other differ. inl (ap (own_of other) add-line);
-      };
-      worlds = subst (λ l. OwnWorldsStand (sealed (vault_of book.seed bench.store)) l) (sym add-line)
-          (subst (λ b. OwnWorldsStand (sealed (vault_of book.seed b.store)) line) (sym done) whole.worlds);
-      facts = subst (AllHas (rest_of (heard Done)).facts) (sym (λ i. record {
-        own = ap (own_of user) add-line i;
-        vault = vault_of book.seed (ap (λ b. b.store) done i);
-        keys = (ap (λ b. key_of b.keys user) done
-            ∙ (λ j kind. keys-added book.bench.keys user class key kind j)) i;
-      })) shows.leads.facts;
-      known = shows.leads.known;
-      owned = subst (λ b. AllOwned b.store.entries user (rest_of (heard Done)).held) (sym done)
-          (owned-still (heard Done) (inl shows.held));
-      differ = differ-still (heard Done) (inl shows.held);
-      at = on.at;
-      on_machine = λ n differ. refl;
-      command = refl;
-      verdict = refl;
-      serves = shows.leads.serves;
-      same_user = shows.leads.same_user;
-      is_task = refl;
-      may = (
-        ap is_some (sym (known-shown user _ line whole.worlds.shows) ∙ shows.given.there),
-        (
+  -- a key leaves it
+  pub remove-moves : (class : Class) (bench : Seen) → RemoveShows (seen_of tasks task) scene user class None
+      → bench ≡ record book.bench { keys = removed book.bench.keys user class; ring_counts = bench.ring_counts }
+      → Moves book actor number (heard_after (Remove user class) Done bench)
+  remove-moves class bench shows same =
+      let keys = removed book.bench.keys user class in
+      aside-moves (Remove user class) Done bench (of_ring keys (without_owner machine.ring user class))
+      (added-too book.bench bench keys same) refl refl (record {
+        may = (
           number,
-          subst (λ found. IsSomeAnd found (λ b. (b.verdict ≡ None) × Installs b.command user class))
+          subst (λ found. IsSomeAnd found (λ b. (b.verdict ≡ None) × Evicts b.command user class))
               (sym on.at) (on.stands.accepted, shows.may),
-        ),
-      );
-      quiet = quiet-installed user class;
-      agrees = record {
-        phase = whole.agrees.phase;
-        boot = whole.agrees.boot;
-        level = whole.agrees.level;
-        durable = whole.agrees.durable;
-        pending = whole.agrees.pending ∙ ap (λ b. changes_made b.disk.stable b.disk.pending) (sym done);
-      };
-      phase = refl;
-      knows = subst (λ b. Knows b.places (view b.disk)) (sym done) known;
-    }
-
-    pub add-moves : Moves book actor number add_after
-    add-moves = leads-move (heard Done) on.began add_after add-leads
+        );
+        quiet = quiet-evicted user class;
+        level = refl;
+        kept = λ b entry live. live;
+        keys = λ other differ. others-stay book.bench.keys user class other differ;
+        worlds = whole.worlds;
+        leads = subst (λ found. Leads (seen_of tasks task) Done scene None no_cost
+            (record { own = own_of user line; vault = vault_of book.seed book.bench.store; keys = found }))
+            (sym (λ i kind. keys-removed book.bench.keys user class kind whole.ring.once i)) shows.leads;
+        owned = owned-still (heard Done) (inl shows.held);
+        differ = differ-still (heard Done) (inl shows.held);
+      })
 
   -- a call of the task with a change or none, and what it is after
   abbrev making_of : Call → Option LocalChange → Answer → Making
@@ -728,12 +779,13 @@ module _ (book : Plain) (actor : Actor) (number : ℕ) (task : UserTask) (whole 
 
   -- a call that the device did
   pub user-done : (call : Call) (change : Option LocalChange) (answer : Answer) (bench : Seen)
-      → CallShows tasks task scene call change → AnswersWhole (Ok (Heard answer)) → Does book.bench bench call answer
+      → CallShows (seen_of tasks task) scene call change → AnswersWhole (Ok (Heard answer))
+      → Does book.bench bench call answer
       → Moves book actor number (after_of book number (making_of call change answer) (Heard answer) bench)
   user-done (OpCall owner op names) change answer bench shows whole_blob does =
       subst (λ a. Moves book actor number
       (after_of book number (making_of (OpCall owner op names) change a) (Heard a) bench)) (sym does.0)
-      (subst (λ u. OpShows tasks task scene u op names change → bench ≡ record book.bench {
+      (subst (λ u. OpShows (seen_of tasks task) scene u op names change → bench ≡ record book.bench {
         disk = with_op book.bench.disk (op_of u op);
         tree_counts = bench.tree_counts;
         places = places_after book.bench.places u op names;
@@ -744,11 +796,11 @@ module _ (book : Plain) (actor : Actor) (number : ℕ) (task : UserTask) (whole 
   user-done Sync change answer bench shows whole_blob does =
       subst (λ a. Moves book actor number (after_of book number (making_of Sync change a) (Heard a) bench))
       (sym does.0)
-      (subst (λ c. SyncShows tasks task scene c
+      (subst (λ c. SyncShows (seen_of tasks task) scene c
       → Moves book actor number (after_of book number (making_of Sync c Done) (Heard Done) bench))
       (sym shows.stands.quiet) (λ stands. sync-moves stands bench does.1) shows.stands)
   user-done (Generate tag app_id) change answer bench shows whole_blob does =
-      subst (λ c. GenerateShows tasks task scene tag app_id c
+      subst (λ c. GenerateShows (seen_of tasks task) scene tag app_id c
       → Moves book actor number (after_of book number (making_of (Generate tag app_id) c answer) (Heard answer) bench))
       (sym shows.stands.quiet)
       (λ stands. subst (λ a. Moves book actor number
@@ -766,21 +818,33 @@ module _ (book : Plain) (actor : Actor) (number : ℕ) (task : UserTask) (whole 
   user-done (Add owner class key) change answer bench shows whole_blob does =
       subst (λ a. Moves book actor number
       (after_of book number (making_of (Add owner class key) change a) (Heard a) bench)) (sym does.0)
-      (subst (λ c. AddShows tasks task scene owner class key c → Moves book actor number
+      (subst (λ c. AddShows (seen_of tasks task) scene owner class key c → Moves book actor number
       (after_of book number (making_of (Add owner class key) c Done) (Heard Done) bench)) (sym shows.stands.quiet)
       (subst (λ u. bench ≡ record book.bench {
         keys = installed book.bench.keys u class key;
         ring_counts = bench.ring_counts;
-      } → AddShows tasks task scene u class key None → Moves book actor number
+      } → AddShows (seen_of tasks task) scene u class key None → Moves book actor number
       (after_of book number (making_of (Add u class key) None Done) (Heard Done) bench)) (sym shows.stands.mine)
-      (λ done stands. add-moves class key stands bench done) does.1) shows.stands)
+      (λ done stands. add-moves class key bench stands done) does.1) shows.stands)
+  user-done (Remove owner class) change answer bench shows whole_blob does =
+      subst (λ a. Moves book actor number
+      (after_of book number (making_of (Remove owner class) change a) (Heard a) bench)) (sym does.0)
+      (subst (λ c. RemoveShows (seen_of tasks task) scene owner class c → Moves book actor number
+      (after_of book number (making_of (Remove owner class) c Done) (Heard Done) bench)) (sym shows.stands.quiet)
+      (subst (λ u. bench ≡ record book.bench {
+        keys = removed book.bench.keys u class;
+        ring_counts = bench.ring_counts;
+      } → RemoveShows (seen_of tasks task) scene u class None → Moves book actor number
+      (after_of book number (making_of (Remove u class) None Done) (Heard Done) bench)) (sym shows.stands.mine)
+      (λ done stands. remove-moves class bench stands done) does.1) shows.stands)
   user-done ListCall change answer bench shows whole_blob does = absurd shows.stands
   user-done (Read place) change answer bench shows whole_blob does = absurd shows.stands
   user-done Entries change answer bench shows whole_blob does = absurd shows.stands
 
   -- the task may hear what the device answered
   pub user-hears : (call : Call) (change : Option LocalChange) (answer : Answer) (bench : Seen)
-      → CallShows tasks task scene call change → AnswersWhole (Ok (Heard answer)) → Does book.bench bench call answer
+      → CallShows (seen_of tasks task) scene call change → AnswersWhole (Ok (Heard answer))
+      → Does book.bench bench call answer
       → tasks.hears task answer
   user-hears (OpCall owner op names) change answer bench shows long does =
       subst (tasks.hears task) (sym does.0) shows.stands.leads.hears
@@ -795,6 +859,8 @@ module _ (book : Plain) (actor : Actor) (number : ℕ) (task : UserTask) (whole 
       (sym (does.0 ∙ ap (λ found. Sealed (sealed_by found nonce key)) shows.stands.1.under.live))
       shows.stands.1.leads.hears
   user-hears (Add owner class key) change answer bench shows long does =
+      subst (tasks.hears task) (sym does.0) shows.stands.leads.hears
+  user-hears (Remove owner class) change answer bench shows long does =
       subst (tasks.hears task) (sym does.0) shows.stands.leads.hears
   user-hears ListCall change answer bench shows long does = absurd shows.stands
   user-hears (Read place) change answer bench shows long does = absurd shows.stands
@@ -815,7 +881,7 @@ module _ (book : Plain) (actor : Actor) (number : ℕ) (task : UserTask) (whole 
       told : ChangeIsTold (view book.bench.disk) call (is_some change)
       knows : Knows bench.places (view bench.disk)
 
-    spares-op : (op : LocalOp) (names : Option Blob) → OpShows tasks task scene user op names change
+    spares-op : (op : LocalOp) (names : Option Blob) → OpShows (seen_of tasks task) scene user op names change
         → IsFailedOp book.bench bench user op → Spares (OpCall user op names)
     spares-op op names shows failed = record {
       store = failed-store book.bench bench user op failed;
@@ -838,20 +904,22 @@ module _ (book : Plain) (actor : Actor) (number : ℕ) (task : UserTask) (whole 
       knows = subst (λ b. Knows b.places (view b.disk)) (sym rests) known;
     }
 
-    spares : (call : Call) → CallShows tasks task scene call change → IsFailed book.bench bench call → Spares call
+    spares : (call : Call) → CallShows (seen_of tasks task) scene call change → IsFailed book.bench bench call
+        → Spares call
     spares (OpCall owner op names) shows failed =
-        subst (λ u. OpShows tasks task scene u op names change → IsFailedOp book.bench bench u op
+        subst (λ u. OpShows (seen_of tasks task) scene u op names change → IsFailedOp book.bench bench u op
         → Spares (OpCall u op names)) (sym shows.stands.mine) (spares-op op names) shows.stands failed
     spares Sync shows failed = spares-same Sync tt failed
     spares (Generate tag app_id) shows failed = spares-same (Generate tag app_id) tt failed
     spares (Encrypt blob app_id nonce key) shows failed = spares-same (Encrypt blob app_id nonce key) tt failed
     spares (Add owner class key) shows failed = spares-same (Add owner class key) tt failed
+    spares (Remove owner class) shows failed = spares-same (Remove owner class) tt failed
     spares ListCall shows failed = absurd shows.stands
     spares (Read place) shows failed = absurd shows.stands
     spares Entries shows failed = absurd shows.stands
 
     -- a call that failed, which is told next
-    pub user-failed : (call : Call) (device : Device) (held : Held) → CallShows tasks task scene call change
+    pub user-failed : (call : Call) (device : Device) (held : Held) → CallShows (seen_of tasks task) scene call change
         → IsMade book.bench bench call (Ok (Failed device)) → blobs_in held ≡ (rest_of task).held
         → Moves book actor number (after_of book number
         (record { call = call; change = change; task = Using task; then = Fault device held }) (Failed device) bench)
@@ -898,7 +966,7 @@ module _ (book : Plain) (actor : Actor) (number : ℕ) (task : UserTask) (whole 
         }
 
   -- the devices' conditions hold, where the blobs given are few
-  pub user-fits : (call : Call) (change : Option LocalChange) → CallShows tasks task scene call change
+  pub user-fits : (call : Call) (change : Option LocalChange) → CallShows (seen_of tasks task) scene call change
       → length book.bench.store.given < 2 ^ 63 → Fits book.bench call
   user-fits (OpCall owner op names) change shows few =
       subst (λ u. LocalFits (part_of (view book.bench.disk) u) op) (sym shows.stands.mine)
@@ -909,6 +977,7 @@ module _ (book : Plain) (actor : Actor) (number : ℕ) (task : UserTask) (whole 
       let under = shows.stands.1.under in
       record { entry = under.entry; found = under.live; bound = under.bound; current = under.current }
   user-fits (Add owner class key) change shows few = tt
+  user-fits (Remove owner class) change shows few = tt
   user-fits ListCall change shows few = absurd shows.stands
   user-fits (Read place) change shows few = absurd shows.stands
   user-fits Entries change shows few = absurd shows.stands

@@ -8,9 +8,10 @@ use Rattle.step_core.specs.declared.jobs.Job.{Job}
 use Rattle.step_core.specs.Jobs.{output_of}
 use Rattle.task_turns.specs.declared.calls.Answer.TheVariants.{Output}
 use Rattle.task_turns.specs.declared.next.Next.{Next}
-use Rattle.task_turns.specs.Turns.{WorkShows, AllOwned}
+use Rattle.task_turns.specs.Turns.{seen_of, WorkShows, AllOwned}
 use Rattle.task_turns.specs.Shares.{AllHas}
-use Rattle.user_tasks.specs.Tasks.{UserTask, tasks, user_of, rest_of}
+use Rattle.user_tasks.specs.declared.tasks.UserTask.{UserTask}
+use Rattle.user_tasks.specs.Tasks.{tasks, user_of, rest_of}
 use Rattle.vold_book.specs.declared.tasks.Running.{Running}
 use Rattle.vold_book.specs.declared.tasks.Task.{Task}
 use Rattle.vold_book.specs.declared.tasks.Task.TheVariants.{User as Using, Recovery as Recovers, Refusal, Fault}
@@ -36,7 +37,7 @@ module _ (ground : Ground) (actor : Actor) (began : BeganCommand) where
     pub held : held_in now ≡ held_in task
 
   module _ (task : UserTask) (job : Job) (rests : TaskStands ground (Using task) began)
-      (shows : WorkShows tasks task (scene_of (user_of task) ground began) job) where
+      (shows : WorkShows (seen_of tasks task) (scene_of (user_of task) ground began) job) where
     abbrev after : UserTask
     after = tasks.after task (Output (output_of job.input))
 

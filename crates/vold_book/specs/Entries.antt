@@ -1,12 +1,12 @@
 -- The entry that a call has in the journal where its device did it, and when the entry may come.
 use Rattle.std.specs.Prelude.{ℕ, List, Option, Some, None}
 use Rattle.journal_model.specs.declared.entries.Entry.{Entry}
-use Rattle.journal_model.specs.declared.entries.Entry.TheVariants.{Changed, Synced, Installed}
+use Rattle.journal_model.specs.declared.entries.Entry.TheVariants.{Changed, Synced, Installed, Evicted}
 use Rattle.journal_model.specs.Machine.{Machine, after_entry, MayCome}
 use Rattle.user_world.specs.declared.changes.LocalChange.{LocalChange}
 use Rattle.user_world.specs.Changes.{change_of}
 use Rattle.task_turns.specs.declared.calls.Call.{Call}
-use Rattle.task_turns.specs.declared.calls.Call.TheVariants.{Op, Sync, Add}
+use Rattle.task_turns.specs.declared.calls.Call.TheVariants.{Op, Sync, Add, Remove}
 use Rattle.bench.specs.declared.made.Made.{Made}
 use Rattle.bench.specs.declared.made.Made.TheVariants.{Heard, Failed}
 
@@ -18,6 +18,7 @@ abbrev pub entry_of : ℕ → Call → Option LocalChange → Option Entry
 entry_of number (Op user op names) change = changed_entry number user change
 entry_of number Sync change = Some Synced
 entry_of number (Add user class key) change = Some (Installed user class)
+entry_of number (Remove user class) change = Some (Evicted user class)
 entry_of number call change = None
 
 -- a call that failed has none

@@ -2,7 +2,7 @@
 use Rattle.std.specs.Prelude.{◌≡◌, ℕ, List, Some}
 use Rattle.std.specs.FinMap as map
 use Rattle.tree_model.specs.declared.places.Class.{Class}
-use Rattle.key_ring.specs.Ring.{Ring, owners, key_of}
+use Rattle.key_ring.specs.Ring.{Ring, IsRing, owners, key_of}
 use Rattle.journal_model.specs.Machine.{Machine}
 use Rattle.journal_model.specs.Made.{key_of as made_key}
 use Rattle.journal_model.specs.Users.{Record, Users, fold_changes}
@@ -15,6 +15,7 @@ pub record IsMadeKey (seed : List ℕ) (users : Users) (user : ℕ) (class : Cla
 
 -- the machine knows whose keys are in the ring, and each key in it is a made one
 pub record RingStands (seed : List ℕ) (keys : Ring) (machine : Machine) : Type 0 where
+  pub once : IsRing keys
   pub owned : machine.ring ≡ owners keys
   pub made : (user : ℕ) (class : Class) (key : List ℕ) → key_of keys user class ≡ Some key
       → IsMadeKey seed (fold_changes machine.log) user class key

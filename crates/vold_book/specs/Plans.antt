@@ -6,7 +6,8 @@ use Rattle.step_core.specs.Jobs.{output_of}
 use Rattle.task_turns.specs.declared.calls.Answer.TheVariants.{Output}
 use Rattle.task_turns.specs.declared.next.Next.{Next}
 use Rattle.task_turns.specs.declared.next.Next.TheVariants.{Call as CallNext, Work as WorkNext, Reply as ReplyNext}
-use Rattle.user_tasks.specs.Tasks.{UserTask, tasks, UserTurns}
+use Rattle.user_tasks.specs.declared.tasks.UserTask.{UserTask}
+use Rattle.user_tasks.specs.Tasks.{tasks, UserTurns}
 use Rattle.vold_book.specs.declared.plans.Plan.{Plan}
 use Rattle.vold_book.specs.declared.plans.Plan.TheVariants.{Call, Reply}
 use Rattle.vold_book.specs.declared.plans.Planned.{Planned}

@@ -12,7 +12,7 @@ use Rattle.vold_book.specs.declared.tasks.Task.{Task}
 use Rattle.vold_book.specs.declared.tasks.Task.TheVariants.{User}
 use Rattle.vold_book.specs.declared.plans.Planned.{Planned}
 use Rattle.vold_book.specs.Plans.{next_of}
-use Rattle.user_tasks.specs.Tasks.{UserTask}
+use Rattle.user_tasks.specs.declared.tasks.UserTask.{UserTask}
 use Rattle.vold_book.specs.declared.turns.Step.{Step}
 use Rattle.vold_book.specs.declared.turns.Step.TheVariants.{Idle, Waits, Begin, GoOn}
 use Rattle.vold_book.specs.State.{BookState, Plain, seen}

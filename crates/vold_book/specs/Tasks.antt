@@ -22,7 +22,7 @@ use Rattle.bench.specs.declared.made.Made.{Made}
 use Rattle.bench.specs.declared.made.Made.TheVariants.{Heard, Failed}
 use Rattle.task_turns.specs.declared.next.Next.{Next}
 use Rattle.task_turns.specs.declared.next.Next.TheVariants.{Work as WorkNext, Reply as ReplyNext}
-use Rattle.task_turns.specs.Turns.{Scene, Rests, AllOwned, TurnShows}
+use Rattle.task_turns.specs.Turns.{seen_of, Scene, Rests, AllOwned, TurnShows}
 use Rattle.user_tasks.specs.Tasks.{tasks, user_of, rest_of}
 use Rattle.vold_book.specs.declared.tasks.Running.{Running}
 use Rattle.vold_book.specs.declared.tasks.Held.{Held}
@@ -90,7 +90,7 @@ fault_of Ring = RingFault
 
 -- what a task shows of its next turn: a refusal and a fault are told
 abbrev pub TaskShows : Ground → Began → Task → Next → Type 0
-TaskShows ground began (User task) next = TurnShows tasks task (scene_of (user_of task) ground began) next
+TaskShows ground began (User task) next = TurnShows (seen_of tasks task) (scene_of (user_of task) ground began) next
 TaskShows ground began (Recovery recovery) next = RecoveryShows ground recovery next
 TaskShows ground began (Refusal refusal) next = next ≡ ReplyNext refusal
 TaskShows ground began (Fault device held) next = next ≡ ReplyNext (fault_of device)
@@ -126,7 +126,7 @@ TaskAfter call (Failed device) task then = TellsFault device (held_in task) then
 abbrev pub Worked : Ground → Began → Task → Task → Option Job → Type 0
 Worked ground began task now None = now ≡ task
 Worked ground began (User task) now (Some job) = (now ≡ User (tasks.after task (Output (output_of job.input))))
-    × TurnShows tasks task (scene_of (user_of task) ground began) (WorkNext job)
+    × TurnShows (seen_of tasks task) (scene_of (user_of task) ground began) (WorkNext job)
 Worked ground began task now (Some job) = ⊥
 
 -- the actor's next turn does this, after a job or none, and shows what it has to

@@ -23,12 +23,13 @@ use Rattle.journal_model.specs.declared.entries.Birth.{Birth}
 use Rattle.journal_model.specs.declared.entries.Change.{Change}
 use Rattle.journal_model.specs.declared.entries.Device.{Device}
 use Rattle.journal_model.specs.declared.entries.Entry.{Entry}
-use Rattle.journal_model.specs.declared.entries.Entry.TheVariants.{Began, Changed, Synced, Installed, Replied}
+use Rattle.journal_model.specs.declared.entries.Entry.TheVariants.{Began, Changed, Synced, Installed, Evicted}
+use Rattle.journal_model.specs.declared.entries.Entry.TheVariants.{Replied}
 use Rattle.journal_model.specs.declared.phase.Phase.TheVariants.{Up}
 use Rattle.journal_model.specs.declared.refusals.Facts.{Facts}
 use Rattle.journal_model.specs.Command.{actor_of, user_in}
 use Rattle.journal_model.specs.Refusals.{refusal_of}
-use Rattle.journal_model.specs.Machine.{is_up, phase_after, TakesTurn}
+use Rattle.journal_model.specs.Machine.{is_up, is_unlocked, phase_after, TakesTurn}
 use Rattle.journal_model.specs.Made.{boot_seed_of}
 use Rattle.docket.specs.Docket.{empty_docket, with_command as docket_with, after_begin as docket_begun, begun_by}
 use Rattle.user_world.specs.declared.changes.LocalChange.{LocalChange}
@@ -38,7 +39,8 @@ use Rattle.bench.specs.declared.made.Made.{Made}
 use Rattle.bench.specs.Seen.{AnswersWhole}
 use Rattle.bench.specs.Bench.{BenchState, Senses, IsMade, AreCounted, device_of, told_of, listed}
 use Rattle.bench.specs.Bench.{was_done}
-use Rattle.user_tasks.specs.Tasks.{UserTask, Begins as TaskBegins}
+use Rattle.user_tasks.specs.declared.tasks.UserTask.{UserTask}
+use Rattle.user_tasks.specs.Tasks.{Begins as TaskBegins}
 use Rattle.vold_book.specs.declared.opened.Opened.{Opened}
 use Rattle.vold_book.specs.declared.recovery.Recovery.TheVariants.{Listing}
 use Rattle.vold_book.specs.declared.tasks.Held.{Held}
@@ -50,7 +52,7 @@ use Rattle.vold_book.specs.declared.turns.Turn.TheVariants.{Went, Idle, Waits}
 use Rattle.vold_book.specs.Entries.{entry_of, made_entry}
 use Rattle.vold_book.specs.Parts.{no_ledger, new_tracker, ledger_with, noted}
 use Rattle.vold_book.specs.Recovery.{max_commands, AllPlaced}
-use Rattle.vold_book.specs.State.{BookState, Plain, over, seen}
+use Rattle.vold_book.specs.State.{BookState, Plain, over, seen, machine_of}
 use Rattle.vold_book.specs.Sweeping.{IsTidy}
 use Rattle.vold_book.specs.Tasks.{begins_anew, lists_with, TaskAfter, fault_of}
 use Rattle.vold_book.specs.Whole.{turns_left}
@@ -101,8 +103,11 @@ user_there places None = false
 user_there places (Some user) = is_some (map.get places (De user))
 
 abbrev pub facts_in : {B : Type 0} → NamedPlaces → BookState B → Command → Facts
-facts_in places book command =
-    record { present = user_there places (user_in command); ready = is_up book.tracker.phase }
+facts_in places book command = record {
+  present = user_there places (user_in command);
+  installed = is_unlocked (user_in command) (machine_of book).ring;
+  ready = is_up book.tracker.phase;
+}
 
 -- what a command does first that isn't refused: what a user's task begins with, or what a recovery does
 abbrev pub AcceptedTask : Command → Birth → List ℕ → Option ℕ → Task → Type 0
@@ -185,11 +190,11 @@ pub record Makes {D E F : Type 0} (senses : Senses D E F) (before after : BookSt
   pub then : TaskAfter making.call made making.task making.then
   pub state : after ≡ after_call before actor number making made after.bench
 
--- an entry of a call: a sync, a change of this command, or a key that was installed
+-- an entry of a call: a sync, a change of this command, or a key that was installed or evicted
 abbrev pub IsNoted : ℕ → Option Entry → Type 0
 IsNoted number None = Unit {0}
 IsNoted number (Some entry) = (entry ≡ Synced) ⊎ (((change : Change) × (entry ≡ Changed number change))
-    ⊎ ((user : ℕ) × (class : Class) × (entry ≡ Installed user class)))
+    ⊎ ((user : ℕ) × (class : Class) × ((entry ≡ Installed user class) ⊎ (entry ≡ Evicted user class))))
 
 -- the task tells next that the device failed
 pub record IsFault (device : Device) (task : Task) : Type 0 where

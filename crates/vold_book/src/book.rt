@@ -4,7 +4,7 @@ ghost use Rattle.std.specs.Prelude.{◌≡◌, ◌≢◌, ◌+◌, ◌^◌, ◌�
 ghost use Rattle.std.specs.Prelude.{IfOk, OnOk, OnErr, length, slice_get, cond, Some, None};
 ghost use Rattle.std.specs.FinMap as map;
 ghost use Rattle.journal_model.specs.Command.{user_in};
-ghost use Rattle.journal_model.specs.Machine.{TakesTurn};
+ghost use Rattle.journal_model.specs.Machine.{TakesTurn, is_unlocked};
 ghost use Rattle.journal_model.specs.Refusals.{refusal_of};
 ghost use Rattle.journal_model.specs.declared.phase.Phase.TheVariants.{Up, Halted};
 ghost use Rattle.docket.specs.Docket.{begun_by, IsNextBusy};
@@ -14,7 +14,7 @@ ghost use Rattle.tree_model.specs.Disk.{view};
 ghost use Rattle.task_turns.specs.declared.next.Next.TheVariants.{Call as CallNext, Reply as ReplyNext};
 ghost use Rattle.vold_book.specs.Recovery.{max_commands};
 ghost use Rattle.vold_book.specs.Stands.{standing_of, IsLooked};
-ghost use Rattle.vold_book.specs.State.{seen, senses};
+ghost use Rattle.vold_book.specs.State.{machine_of, seen, senses};
 ghost use Rattle.vold_book.specs.Steps.{IsStep, GoesOn, RepliesTo, IsPlanned, RepliesNext};
 ghost use Rattle.vold_book.specs.Stops.{IsStopped, IsRestarted};
 ghost use Rattle.vold_book.specs.Turns.{new_book, new_bench, opened_at, with_command, IsEnqueued, facts_in};
@@ -44,7 +44,7 @@ use keystore_model::{Keystore, Tag};
 use std::alloc::Global;
 use std::marker::Model;
 use task_turns::{Call, Next};
-use tree_model::{Blob, Bytes, Cut, DevFault, Dir, NoMemory, Place, TreeDisk};
+use tree_model::{Blob, Bytes, Class, Cut, DevFault, Dir, NoMemory, Place, TreeDisk};
 use user_tasks::UserTask;
 use user_world::LocalChange;
 
@@ -280,6 +280,7 @@ impl<T: TreeDisk, K: Keystore, G: KeyRing> Book<T, K, G> {
     {
         let facts = Facts {
             present: self.is_there(command.user()),
+            installed: self.is_unlocked(command.user()),
             ready: self.tracker.phase() == Phase::Up,
         };
         match refusal(command, facts) {
@@ -305,6 +306,16 @@ impl<T: TreeDisk, K: Keystore, G: KeyRing> Book<T, K, G> {
     {
         match user {
             Some(user) => self.bench.table.has(Place::De(user)),
+            None => false,
+        }
+    }
+
+    /// Whether the user, if there is one, has a credential key in the ring.
+    fn is_unlocked(&self, user: Option<u32>) -> bool
+        ensures { result ≡ is_unlocked user (machine_of self.now).ring }
+    {
+        match user {
+            Some(user) => self.bench.ring.get(user, Class::Ce).is_some(),
             None => false,
         }
     }

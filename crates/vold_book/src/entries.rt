@@ -32,6 +32,10 @@ fn done_entry(call: &Call, change: Option<LocalChange>, number: u64) -> Option<E
             user: *user,
             class: *class,
         }),
+        Call::Remove { user, class } => Some(Entry::Evicted {
+            user: *user,
+            class: *class,
+        }),
         _ => None,
     }
 }

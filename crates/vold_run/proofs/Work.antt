@@ -193,8 +193,10 @@ entry-noted number None noted entries = ([], inl refl, sym (append-nil entries))
 entry-noted number (Some entry) (inl is) entries = (entry ∷ [], inr (inl (ap (λ e. e ∷ []) is)), refl)
 entry-noted number (Some entry) (inr (inl (change, is))) entries =
     (entry ∷ [], inr (inr (inl (change, ap (λ e. e ∷ []) is))), refl)
-entry-noted number (Some entry) (inr (inr (user, class, is))) entries =
-    (entry ∷ [], inr (inr (inr (user, class, ap (λ e. e ∷ []) is))), refl)
+entry-noted number (Some entry) (inr (inr (user, class, inl is))) entries =
+    (entry ∷ [], inr (inr (inr (user, class, inl (ap (λ e. e ∷ []) is)))), refl)
+entry-noted number (Some entry) (inr (inr (user, class, inr is))) entries =
+    (entry ∷ [], inr (inr (inr (user, class, inr (ap (λ e. e ∷ []) is)))), refl)
 
 -- a turn that went fits
 pub turn-fits : {D E F : Type 0} (senses : Senses D E F) (book after : BookState (BenchState D E F)) (actor : Actor)

@@ -13,7 +13,7 @@ use Rattle.journal_model.specs.declared.commands.Command.TheVariants.{Recover}
 use Rattle.journal_model.specs.declared.commands.Reply.{Reply}
 use Rattle.journal_model.specs.declared.entries.Change.{Change}
 use Rattle.journal_model.specs.declared.entries.Entry.{Entry}
-use Rattle.journal_model.specs.declared.entries.Entry.TheVariants.{Began, Changed, Synced, Installed}
+use Rattle.journal_model.specs.declared.entries.Entry.TheVariants.{Began, Changed, Synced, Installed, Evicted}
 use Rattle.journal_model.specs.declared.entries.Entry.TheVariants.{Stopped, Restarted, Replied}
 use Rattle.journal_model.specs.Actor.{actor_cmp}
 use Rattle.journal_model.specs.Command.{actor_of}
@@ -92,10 +92,11 @@ pub record BeginsNext (before : History) (actor : Actor) (after : History) : Typ
   pub left : after ≡ record before { entries = before.entries ++ Began number actor command ∷ [] }
 
 -- what a call adds to the journal: nothing, that it was synced, a change by the running command, or that a key was
--- installed
+-- installed or evicted
 abbrev pub IsNoted : ℕ → List Entry → Type 0
 IsNoted number more = (more ≡ []) ⊎ ((more ≡ Synced ∷ []) ⊎ (((change : Change) × (more ≡ Changed number change ∷ []))
-    ⊎ ((user : ℕ) × (class : Class) × (more ≡ Installed user class ∷ []))))
+    ⊎ ((user : ℕ) × (class : Class)
+    × ((more ≡ Installed user class ∷ []) ⊎ (more ≡ Evicted user class ∷ [])))))
 
 -- the command that the actor runs makes one call of a device
 pub record CallsOnce (before : History) (actor : Actor) (after : History) : Type 0 where

@@ -1,4 +1,5 @@
 use Rattle.std.proofs.Common.{sym, subst}
+use Rattle.user_tasks.specs.declared.tasks.UserTask.TheVariants.{Create as OfCreate}
 use Rattle.user_tasks.specs.Tasks.{Begins}
 use Rattle.user_tasks.proofs.Begun.{first-begins}
 use Rattle.user_tasks.proofs.tasks.first.Goals as goal
@@ -6,7 +7,8 @@ use Rattle.user_tasks.proofs.tasks.first.Goals as goal
 pub returns-in_ok-create-in-Create : goal.returns-in_ok-create-in-Create
 returns-in_ok-create-in-Create c =
     let create = c.in_ok-create-in-Create.create in record {
-      begins = subst (λ command. Begins command c.args.birth c.args.boot_seed.now create) (sym c.in-Create.is)
+      begins = subst (λ command. Begins command c.args.birth c.args.boot_seed.now (OfCreate create))
+          (sym c.in-Create.is)
           (first-begins c.in-Create.user c.args.birth c.args.number c.args.boot_seed.now create
           c.in_ok-create-in-Create.ensures.first);
       jobs = record {

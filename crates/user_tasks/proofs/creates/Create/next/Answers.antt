@@ -2,21 +2,22 @@ use Rattle.std.proofs.Common.{subst, sym}
 use Rattle.std.specs.Prelude.{IfOk}
 use Rattle.journal_model.specs.declared.commands.Reply.TheVariants.{Done}
 use Rattle.task_turns.specs.declared.next.Next.TheVariants.{Reply}
-use Rattle.task_turns.specs.Turns.{Asks}
+use Rattle.task_turns.specs.Turns.{seen_of, Asks}
 use Rattle.user_tasks.specs.Tasks.{UserTurns, UserJobs, tasks}
 use Rattle.user_tasks.proofs.AskedJobs.{clearing-asks, ce-asks, de-asks}
 use Rattle.user_tasks.proofs.CreateTurns.{clear-turn, begin-turn, ce-turn, de-turn, turns-given}
 use Rattle.user_tasks.proofs.Installing.{sync-turn, de-installed, ce-installed, reply-turn}
 use Rattle.user_tasks.proofs.JobNumbers.{call-jobs, begin-jobs, ce-jobs, de-jobs}
 use Rattle.user_tasks.proofs.creates.Create.next.Goals as goal
+use Rattle.user_tasks.specs.declared.tasks.UserTask.TheVariants.{Create as OfCreate}
 
 pub returns-in-Some : goal.returns-in-Some
 returns-in-Some c =
     let way = c.args.in_the_way in
     let next = c.quiet.result in record {
-      turn = subst (λ create. UserTurns create way next) c.self.view_is
+      turn = subst (λ create. UserTurns (OfCreate create) way next) c.self.view_is
           (clear-turn _ c.self.invariant way c.in-Some.site next c.in-Clearing.is c.in-Some.is c.quiet.ensures);
-      asks = subst (Asks tasks c.args.self.now) (sym c.quiet.ensures) tt;
+      asks = subst (Asks (seen_of tasks (OfCreate c.args.self.now))) (sym c.quiet.ensures) tt;
       jobs = call-jobs c.args.self.now way next _ _ c.quiet.ensures;
     }
 
@@ -24,12 +25,12 @@ pub returns-in-None : goal.returns-in-None
 returns-in-None c =
     let way = c.args.in_the_way in
     let result = c.store_turn.result in record {
-      turn = subst (λ create. IfOk result (UserTurns create way)) c.self.view_is
+      turn = subst (λ create. IfOk result (UserTurns (OfCreate create) way)) c.self.view_is
           (turns-given _ _ result c.store_turn.ensures.turn
           (λ next turn. begin-turn _ c.self.invariant way next c.in-Clearing.is c.in-None.is turn));
-      asks = subst (λ create. IfOk c.store_turn.result (Asks tasks create)) c.self.view_is
+      asks = subst (λ create. IfOk c.store_turn.result (Asks (seen_of tasks (OfCreate create)))) c.self.view_is
           (clearing-asks _ c.store_turn.result c.in-Clearing.is c.store_turn.ensures.turn);
-      jobs = subst (λ create. IfOk result (UserJobs create way)) c.self.view_is
+      jobs = subst (λ create. IfOk result (UserJobs (OfCreate create) way)) c.self.view_is
           (turns-given _ _ result c.store_turn.ensures.turn
           (λ next turn. begin-jobs _ c.self.invariant way next c.in-Clearing.is c.in-None.is turn));
     }
@@ -38,12 +39,13 @@ pub returns-in-StoringCe : goal.returns-in-StoringCe
 returns-in-StoringCe c =
     let way = c.args.in_the_way in
     let result = c.store_turn-in-StoringCe.result in record {
-      turn = subst (λ create. IfOk result (UserTurns create way)) c.self.view_is
+      turn = subst (λ create. IfOk result (UserTurns (OfCreate create) way)) c.self.view_is
           (turns-given _ _ result c.store_turn-in-StoringCe.ensures.turn
           (λ next turn. ce-turn _ c.self.invariant way next c.in-StoringCe.is turn));
-      asks = subst (λ create. IfOk c.store_turn-in-StoringCe.result (Asks tasks create)) c.self.view_is
+      asks = subst (λ create. IfOk c.store_turn-in-StoringCe.result (Asks (seen_of tasks (OfCreate create))))
+          c.self.view_is
           (ce-asks _ c.store_turn-in-StoringCe.result c.in-StoringCe.is c.store_turn-in-StoringCe.ensures.turn);
-      jobs = subst (λ create. IfOk result (UserJobs create way)) c.self.view_is
+      jobs = subst (λ create. IfOk result (UserJobs (OfCreate create) way)) c.self.view_is
           (turns-given _ _ result c.store_turn-in-StoringCe.ensures.turn
           (λ next turn. ce-jobs _ c.self.invariant way next c.in-StoringCe.is turn));
     }
@@ -52,12 +54,13 @@ pub returns-in-StoringDe : goal.returns-in-StoringDe
 returns-in-StoringDe c =
     let way = c.args.in_the_way in
     let result = c.store_turn-in-StoringDe.result in record {
-      turn = subst (λ create. IfOk result (UserTurns create way)) c.self.view_is
+      turn = subst (λ create. IfOk result (UserTurns (OfCreate create) way)) c.self.view_is
           (turns-given _ _ result c.store_turn-in-StoringDe.ensures.turn
           (λ next turn. de-turn _ c.self.invariant way next c.in-StoringDe.is turn));
-      asks = subst (λ create. IfOk c.store_turn-in-StoringDe.result (Asks tasks create)) c.self.view_is
+      asks = subst (λ create. IfOk c.store_turn-in-StoringDe.result (Asks (seen_of tasks (OfCreate create))))
+          c.self.view_is
           (de-asks _ c.store_turn-in-StoringDe.result c.in-StoringDe.is c.store_turn-in-StoringDe.ensures.turn);
-      jobs = subst (λ create. IfOk result (UserJobs create way)) c.self.view_is
+      jobs = subst (λ create. IfOk result (UserJobs (OfCreate create) way)) c.self.view_is
           (turns-given _ _ result c.store_turn-in-StoringDe.ensures.turn
           (λ next turn. de-jobs _ c.self.invariant way _ next c.in-StoringDe.is turn));
     }
@@ -66,9 +69,9 @@ pub returns-in-Created : goal.returns-in-Created
 returns-in-Created c =
     let way = c.args.in_the_way in
     let next = c.quiet-in-Created.result in record {
-      turn = subst (λ create. UserTurns create way next) c.self.view_is
+      turn = subst (λ create. UserTurns (OfCreate create) way next) c.self.view_is
           (sync-turn _ c.self.invariant way next c.in-Created.is c.quiet-in-Created.ensures);
-      asks = subst (Asks tasks c.args.self.now) (sym c.quiet-in-Created.ensures) tt;
+      asks = subst (Asks (seen_of tasks (OfCreate c.args.self.now))) (sym c.quiet-in-Created.ensures) tt;
       jobs = call-jobs c.args.self.now way next _ _ c.quiet-in-Created.ensures;
     }
 
@@ -76,9 +79,9 @@ pub returns-in-InstallingDe : goal.returns-in-InstallingDe
 returns-in-InstallingDe c =
     let way = c.args.in_the_way in
     let next = c.install.result in record {
-      turn = subst (λ create. UserTurns create way next) c.self.view_is
+      turn = subst (λ create. UserTurns (OfCreate create) way next) c.self.view_is
           (de-installed _ c.self.invariant way next c.in-InstallingDe.is c.install.ensures);
-      asks = subst (Asks tasks c.args.self.now) (sym c.install.ensures) tt;
+      asks = subst (Asks (seen_of tasks (OfCreate c.args.self.now))) (sym c.install.ensures) tt;
       jobs = call-jobs c.args.self.now way next _ _ c.install.ensures;
     }
 
@@ -86,15 +89,15 @@ pub returns-in-InstallingCe : goal.returns-in-InstallingCe
 returns-in-InstallingCe c =
     let way = c.args.in_the_way in
     let next = c.install-in-InstallingCe.result in record {
-      turn = subst (λ create. UserTurns create way next) c.self.view_is
+      turn = subst (λ create. UserTurns (OfCreate create) way next) c.self.view_is
           (ce-installed _ c.self.invariant way next c.in-InstallingCe.is c.install-in-InstallingCe.ensures);
-      asks = subst (Asks tasks c.args.self.now) (sym c.install-in-InstallingCe.ensures) tt;
+      asks = subst (Asks (seen_of tasks (OfCreate c.args.self.now))) (sym c.install-in-InstallingCe.ensures) tt;
       jobs = call-jobs c.args.self.now way next _ _ c.install-in-InstallingCe.ensures;
     }
 
 pub returns-in-Ended : goal.returns-in-Ended
 returns-in-Ended c = record {
-  turn = subst (λ create. UserTurns create c.args.in_the_way (Reply Done)) c.self.view_is
+  turn = subst (λ create. UserTurns (OfCreate create) c.args.in_the_way (Reply Done)) c.self.view_is
       (reply-turn _ c.self.invariant c.args.in_the_way c.in-Ended.is);
   asks = tt;
   jobs = λ scene images clear rests. tt;

@@ -8,7 +8,7 @@ use Rattle.docket.specs.Docket.{docket_of}
 use Rattle.journal_model.specs.declared.commands.Actor.{Actor}
 use Rattle.user_world.specs.declared.changes.LocalChange.{LocalChange}
 use Rattle.task_turns.specs.declared.calls.Call.{Call}
-use Rattle.user_tasks.specs.Tasks.{UserTask}
+use Rattle.user_tasks.specs.declared.tasks.UserTask.{UserTask}
 use Rattle.bench.specs.Bench.{BenchState, Senses, was_done}
 use Rattle.vold_book.specs.declared.tasks.Running.{Running}
 use Rattle.vold_book.specs.declared.plans.Plan.TheVariants.{Call as PlansCall}

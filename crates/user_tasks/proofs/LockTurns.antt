@@ -1,0 +1,88 @@
+-- A lock begins wherever its command isn't refused, and each of its turns shows what it has to.
+use Rattle.std.proofs.Common.{◌≡◌, ℕ, List, refl, sym, subst, arith}
+use Rattle.std.specs.Prelude.{Option}
+use Rattle.tree_model.specs.declared.places.Class.TheVariants.{Ce as ForCe}
+use Rattle.tree_model.specs.declared.sites.Site.{Site}
+use Rattle.journal_model.specs.declared.commands.Command.TheVariants.{Lock as LockCommand}
+use Rattle.journal_model.specs.declared.commands.Reply.TheVariants.{Done as DoneReply}
+use Rattle.journal_model.specs.declared.entries.Birth.{Birth}
+use Rattle.journal_model.specs.Machine.{AllowsSuccess, Evicts}
+use Rattle.keystore_model.proofs.Elements.{Contains-none}
+use Rattle.user_world.specs.Turns.{IsLogged, AreDurable}
+use Rattle.task_turns.specs.declared.calls.Call.TheVariants.{Remove}
+use Rattle.task_turns.specs.declared.next.Next.{Next}
+use Rattle.task_turns.specs.declared.next.Next.TheVariants.{Reply as ReplyNext}
+use Rattle.task_turns.specs.Turns.{KeyIsIn, Asks, seen_of}
+use Rattle.user_tasks.specs.declared.locks.Lock.{Lock}
+use Rattle.user_tasks.specs.declared.locks.LockStage.{LockStage}
+use Rattle.user_tasks.specs.declared.locks.LockStage.TheVariants.{Evicting, Ended}
+use Rattle.user_tasks.specs.declared.tasks.UserTask.TheVariants.{Lock as OfLock}
+use Rattle.user_tasks.specs.Lock.{first_lock}
+use Rattle.user_tasks.specs.Stores.{quiet_turn}
+use Rattle.user_tasks.specs.Tasks.{Begins, UserTurns, tasks}
+
+module _ (lock : Lock) where
+  abbrev staged : LockStage → Lock
+  staged stage = record lock { stage = stage }
+
+  -- the key leaves the ring
+  pub evict-turn : (next : Next) → lock.stage ≡ Evicting → next ≡ quiet_turn (Remove lock.user ForCe)
+      → (site : Option Site) → UserTurns (OfLock lock) site next
+  evict-turn next here named site =
+      subst (UserTurns (OfLock lock) site) (sym named)
+      (subst (λ stage. UserTurns (OfLock (staged stage)) site (quiet_turn (Remove lock.user ForCe))) (sym here)
+      (λ scene images clear rests. record {
+        stands = record {
+          quiet = refl;
+          mine = refl;
+          may = subst (λ command. Evicts command lock.user ForCe) (sym rests.serves.command) (refl, refl);
+          held = refl;
+          leads = record {
+            hears = refl;
+            facts = (refl, tt);
+            known = (tt, tt);
+            serves = record { command = rests.serves.command };
+            same_user = refl;
+            falls = omega arith;
+            makes = omega arith;
+            draws = omega arith;
+          };
+        };
+        may = tt;
+        lasts = omega arith;
+      }))
+
+  -- and then it is told so
+  pub reply-turn : lock.stage ≡ Ended → (site : Option Site) → UserTurns (OfLock lock) site (ReplyNext DoneReply)
+  reply-turn here site = subst (λ stage. UserTurns (OfLock (staged stage)) site (ReplyNext DoneReply)) (sym here)
+      (λ scene images clear rests. record {
+        success = refl;
+        may = subst (λ command. AllowsSuccess (IsLogged lock.user scene.share.own)
+            (AreDurable lock.user scene.share.own) (KeyIsIn lock.user scene.share) scene.boot scene.began command
+            DoneReply) (sym rests.serves.command) (refl, rests.facts.0);
+        lasts = omega arith;
+        held = refl;
+      })
+
+  -- it asks for no job
+  pub asks-none : (next : Next) → next ≡ quiet_turn (Remove lock.user ForCe)
+      → Asks (seen_of tasks (OfLock lock)) next
+  asks-none next named = subst (Asks (seen_of tasks (OfLock lock))) (sym named) tt
+
+pub lock-begins : (user : ℕ) (birth : Birth) (boot_seed : List ℕ)
+    → Begins (LockCommand user) birth boot_seed (OfLock (first_lock user))
+lock-begins user birth boot_seed = record {
+  owned = refl;
+  few = omega arith;
+  makes = omega arith;
+  draws = omega arith;
+  held = refl;
+  rests = λ facts share present installed accepted seeded. record {
+    of_user = refl;
+    accepted = refl;
+    serves = record { command = refl };
+    facts = tt;
+    known = tt;
+    owned = λ blob none. absurd (Contains-none blob none);
+  };
+}
