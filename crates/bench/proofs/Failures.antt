@@ -13,7 +13,7 @@ use Rattle.journal_model.specs.declared.entries.Device.TheVariants.{Tree as Tree
 use Rattle.journal_model.specs.declared.entries.Device.TheVariants.{Ring as RingDevice}
 use Rattle.task_turns.specs.declared.calls.Call.{Call}
 use Rattle.task_turns.specs.declared.calls.Call.TheVariants.{Op, Sync, List as ListCall, Read}
-use Rattle.task_turns.specs.declared.calls.Call.TheVariants.{Generate, Encrypt, Entries, Add, Remove}
+use Rattle.task_turns.specs.declared.calls.Call.TheVariants.{Generate, Encrypt, Decrypt, Entries, Add, Remove}
 use Rattle.bench.specs.declared.bench.Bench.{Bench}
 use Rattle.bench.specs.Bench.{Senses, Plain, seen, counts_of, IsFailedOp, IsFailed, Rests}
 use Rattle.bench.specs.Seen.{state_of, Makes}
@@ -90,6 +90,7 @@ failed-keys before after ListCall failed = rest-keys before after failed
 failed-keys before after (Read place) failed = rest-keys before after failed
 failed-keys before after (Generate tag app_id) failed = rest-keys before after failed
 failed-keys before after (Encrypt blob app_id nonce key) failed = rest-keys before after failed
+failed-keys before after (Decrypt blob app_id sealed) failed = rest-keys before after failed
 failed-keys before after Entries failed = rest-keys before after failed
 failed-keys before after (Add user class key) failed = rest-keys before after failed
 failed-keys before after (Remove user class) failed = rest-keys before after failed

@@ -30,7 +30,7 @@ use Rattle.step_core.specs.Table.{NamedPlaces, named_by}
 use Rattle.task_turns.specs.declared.calls.Answer.{Answer}
 use Rattle.task_turns.specs.declared.calls.Call.{Call}
 use Rattle.task_turns.specs.declared.calls.Call.TheVariants.{Op, Sync, List as ListCall, Read}
-use Rattle.task_turns.specs.declared.calls.Call.TheVariants.{Generate, Encrypt, Entries, Add, Remove}
+use Rattle.task_turns.specs.declared.calls.Call.TheVariants.{Generate, Encrypt, Decrypt, Entries, Add, Remove}
 use Rattle.bench.specs.declared.made.Made.{Made}
 use Rattle.bench.specs.declared.made.Made.TheVariants.{Heard, Failed}
 use Rattle.bench.specs.Bench.{Plain, KnowsPlaces, named_in, places_after, Fits, Rests}
@@ -233,9 +233,11 @@ module _ (Which : Place → Type 0) (never : (user : ℕ) → ¬ (Which (TempPla
     knows-heard ListCall answer fits brings does =
         subst (λ (disk : Disk). KnowsPlaces after.places (view disk)) (sym (ap (λ (p : Plain). p.disk) does.2)) does.1
     knows-heard (Read place) answer fits brings does =
-        subst (KnowsTree Which) (sym does.1) (knows-read before.places (view before.disk) place fits knows)
+        subst (KnowsTree Which) (sym does.3) (knows-read before.places (view before.disk) place fits knows)
     knows-heard (Generate tag app_id) answer fits brings does = subst (KnowsTree Which) (sym does.3) knows
     knows-heard (Encrypt blob app_id nonce key) answer fits brings does = subst (KnowsTree Which) (sym does.1) knows
+    knows-heard (Decrypt blob app_id sealed) answer fits brings does =
+        subst (KnowsTree Which) (sym does.1) knows
     knows-heard Entries answer fits brings does = subst (KnowsTree Which) (sym does.1.2) knows
     knows-heard (Add user class key) answer fits brings does = subst (KnowsTree Which) (sym does.1) knows
     knows-heard (Remove user class) answer fits brings does = subst (KnowsTree Which) (sym does.1) knows
@@ -249,6 +251,7 @@ module _ (Which : Place → Type 0) (never : (user : ℕ) → ¬ (Which (TempPla
     knows-undone (Read place) fits brings failed = knows-rests failed
     knows-undone (Generate tag app_id) fits brings failed = knows-rests failed
     knows-undone (Encrypt blob app_id nonce key) fits brings failed = knows-rests failed
+    knows-undone (Decrypt blob app_id sealed) fits brings failed = knows-rests failed
     knows-undone Entries fits brings failed = knows-rests failed
     knows-undone (Add user class key) fits brings failed = knows-rests failed
     knows-undone (Remove user class) fits brings failed = knows-rests failed

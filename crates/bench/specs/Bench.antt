@@ -21,16 +21,16 @@ use Rattle.deferred_delete.specs.Deferral.{Deferral, noted}
 use Rattle.journal_model.specs.declared.entries.Device.{Device}
 use Rattle.journal_model.specs.declared.entries.Device.TheVariants.{Tree as TreeDevice, Store as StoreDevice}
 use Rattle.journal_model.specs.declared.entries.Device.TheVariants.{Ring as RingDevice}
-use Rattle.keystore_model.specs.Sealed.{encrypted}
+use Rattle.keystore_model.specs.Sealed.{encrypted, decrypted}
 use Rattle.keystore_model.specs.Store.{Store, IsGenerated, IsCurrent, blobs_of}
 use Rattle.blob_custody.specs.Steps.{pushed_all}
 use Rattle.key_directory.specs.Shape.{sized}
 use Rattle.step_core.specs.Table.{NamedPlaces, named_by}
 use Rattle.task_turns.specs.declared.calls.Answer.{Answer}
-use Rattle.task_turns.specs.declared.calls.Answer.TheVariants.{Done, Blob as IsBlob, Sealed}
+use Rattle.task_turns.specs.declared.calls.Answer.TheVariants.{Done, Directory, Blob as IsBlob, Sealed, Decrypted}
 use Rattle.task_turns.specs.declared.calls.Call.{Call}
 use Rattle.task_turns.specs.declared.calls.Call.TheVariants.{Op, Sync, List as ListCall, Read}
-use Rattle.task_turns.specs.declared.calls.Call.TheVariants.{Generate, Encrypt, Entries, Add, Remove}
+use Rattle.task_turns.specs.declared.calls.Call.TheVariants.{Generate, Encrypt, Decrypt, Entries, Add, Remove}
 use Rattle.bench.specs.declared.made.Made.{Made}
 use Rattle.bench.specs.declared.made.Made.TheVariants.{Heard, Failed}
 
@@ -116,6 +116,7 @@ Fits bench ListCall = Unit {0}
 Fits bench (Read place) = is_some (map.get (view bench.disk) place) ≡ true
 Fits bench (Generate tag app_id) = length bench.store.given < 2 ^ 63
 Fits bench (Encrypt blob app_id nonce key) = IsCurrent bench.store blob app_id
+Fits bench (Decrypt blob app_id sealed) = length sealed ≡ 92
 Fits bench (Add user class key) = Unit {0}
 Fits bench (Remove user class) = Unit {0}
 Fits bench Entries = bench.list.next + bench.list.promised + length bench.store.entries < 2 ^ 63
@@ -127,6 +128,7 @@ device_of ListCall = TreeDevice
 device_of (Read place) = TreeDevice
 device_of (Generate tag app_id) = StoreDevice
 device_of (Encrypt blob app_id nonce key) = StoreDevice
+device_of (Decrypt blob app_id sealed) = StoreDevice
 device_of Entries = StoreDevice
 device_of (Add user class key) = RingDevice
 device_of (Remove user class) = RingDevice
@@ -153,14 +155,18 @@ Does before after Sync answer = (answer ≡ Done) × (after ≡ record before {
 })
 Does before after ListCall answer = (answer ≡ Done) × KnowsPlaces after.places (view before.disk)
     × (after ≡ record before { tree_counts = after.tree_counts; places = after.places })
-Does before after (Read place) answer = (answer ≡ Done) × (after ≡ record before {
-  tree_counts = after.tree_counts;
-  places = map.insert before.places place (named_by (named_in (map.get (view before.disk) place)));
-})
+Does before after (Read place) answer = (files : Files) × (map.get (view before.disk) place ≡ Some files)
+    × (answer ≡ Directory files) × (after ≡ record before {
+      tree_counts = after.tree_counts;
+      places = map.insert before.places place (named_by (named_in (map.get (view before.disk) place)));
+    })
 Does before after (Generate tag app_id) answer = (blob : Blob) × (answer ≡ IsBlob blob)
     × IsGenerated before.store after.store tag app_id blob
     × (after ≡ record before { store = after.store; store_counts = after.store_counts })
 Does before after (Encrypt blob app_id nonce key) answer = (answer ≡ Sealed (encrypted before.store blob nonce key))
+    × (after ≡ record before { store_counts = after.store_counts })
+Does before after (Decrypt blob app_id sealed) answer =
+    (answer ≡ Decrypted (decrypted before.store blob app_id sealed))
     × (after ≡ record before { store_counts = after.store_counts })
 Does before after Entries answer = (answer ≡ Done) × ((found : List Blob)
     × AreUnnamed before.places (blobs_of before.store.entries) found

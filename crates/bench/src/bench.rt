@@ -6,7 +6,7 @@ ghost use Rattle.deferred_delete.specs.Deferral.{Deferral};
 ghost use Rattle.keystore_model.specs.Store.{IsCurrent};
 ghost use Rattle.step_core.specs.Table.{empty_table};
 ghost use Rattle.task_turns.specs.declared.calls.Call.TheVariants.{Op, Sync, List as ListCall, Read};
-ghost use Rattle.task_turns.specs.declared.calls.Call.TheVariants.{Generate, Encrypt, Entries, Add, Remove};
+ghost use Rattle.task_turns.specs.declared.calls.Call.TheVariants.{Generate, Encrypt, Decrypt, Entries, Add, Remove};
 ghost use Rattle.tree_model.specs.Disk.{view};
 ghost use Rattle.tree_model.specs.Parts.{part_of, LocalFits};
 
@@ -85,6 +85,11 @@ impl<T: TreeDisk, K: Keystore, G: KeyRing> Bench<T, K, G> {
                 nonce,
                 key,
             } => self.encrypt(alloc, *blob, app_id.as_slice(), *nonce, *key),
+            Call::Decrypt {
+                blob,
+                app_id,
+                sealed,
+            } => self.decrypt(alloc, *blob, app_id.as_slice(), sealed.as_slice()),
             Call::Entries => self.list_entries(alloc),
             Call::Add { user, class, key } => self.add(alloc, *user, *class, key),
             Call::Remove { user, class } => self.remove(*user, *class),
@@ -146,7 +151,7 @@ impl<T: TreeDisk, K: Keystore, G: KeyRing> Bench<T, K, G> {
         match self.tree.read(alloc, place) {
             Ok(dir) => {
                 self.table.put(place, shapes::named(&dir));
-                Ok(Made::Heard(Answer::Done))
+                Ok(Made::Heard(Answer::Directory(dir)))
             }
             Err(fault) => failure(Device::Tree, fault),
         }
@@ -185,6 +190,24 @@ impl<T: TreeDisk, K: Keystore, G: KeyRing> Bench<T, K, G> {
             .encrypt(alloc, blob, app_id, nonce, key.as_slice())
         {
             Ok(sealed) => Ok(Made::Heard(Answer::Sealed(sealed))),
+            Err(fault) => failure(Device::Store, fault),
+        }
+    }
+
+    /// Opens a sealed key under the blob's entry.
+    fn decrypt(
+        &mut self,
+        alloc: Global,
+        blob: Blob,
+        app_id: &[u8],
+        sealed: &[u8],
+    ) -> Result<Made, NoMemory>
+        requires long { length sealed.now ≡ 92 }
+        ensures { Makes (senses_by T.disk T.counts K.store K.counts G.ring G.counts) self.old self.new
+            (Decrypt blob app_id.now sealed.now) result }
+    {
+        match self.store.decrypt(alloc, blob, app_id, sealed) {
+            Ok(opened) => Ok(Made::Heard(Answer::Decrypted(opened))),
             Err(fault) => failure(Device::Store, fault),
         }
     }

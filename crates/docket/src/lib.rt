@@ -75,6 +75,13 @@ impl<A: Ord + ExactOrd + Copy, C: Drop, R: Drop> Docket<A, C, R> {
         &self.commands[number as usize]
     }
 
+    /// The command of a number; None where the number was not given.
+    pub fn find(&self, number: u64) -> Option<&C>
+        ensures { option_copied result ≡ slice_get (docket_of A.cmp self.now).commands number }
+    {
+        self.commands.get(number as usize)
+    }
+
     /// Whether something waits for the actor.
     pub fn is_waiting(&self, actor: A) -> bool
         ensures { IsTrue result ↔ IsSome (map.get (docket_of A.cmp self.now).waiting actor) }
@@ -87,6 +94,13 @@ impl<A: Ord + ExactOrd + Copy, C: Drop, R: Drop> Docket<A, C, R> {
         ensures { option_copied result ≡ map.get (docket_of A.cmp self.now).running actor }
     {
         self.running.get(actor)
+    }
+
+    /// What runs, in the order of actors.
+    pub fn works(&self) -> &[R]
+        ensures { result.now ≡ map.values (docket_of A.cmp self.now).running }
+    {
+        self.running.values()
     }
 
     /// The first number that waits for the actor, for which something waits.

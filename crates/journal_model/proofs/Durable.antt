@@ -13,7 +13,7 @@ use Rattle.journal_model.specs.declared.entries.Entry.TheVariants.{Began, Change
 use Rattle.journal_model.specs.declared.entries.Entry.TheVariants.{Stopped, Restarted, Replied}
 use Rattle.journal_model.specs.Users.{owner_of}
 use Rattle.journal_model.specs.Machine.{Machine, Running, first_machine, after_entry, machine_from, NoChangeOf}
-use Rattle.journal_model.specs.Machine.{AllowsReply, AllowsSuccess, IsDurable, HasKey, MayCome, IsLegal, IsLegalFrom}
+use Rattle.journal_model.specs.Machine.{AllowsReply, DidWork, evidence_of, MayCome, IsLegal, IsLegalFrom}
 use Rattle.journal_model.specs.Durable.{durable_changes, IsFront, Survive, LawOfCreated}
 
 -- no more changes are durable than there are
@@ -145,12 +145,10 @@ created entries number user running at is none may = told (allowed (map.get mach
 
     told : AllowsReply machine running running.verdict Done → Contains (durable_changes machine) change
     told allows =
-        let success = subst
-        (λ command. AllowsSuccess (Contains machine.log) (IsDurable machine) (HasKey machine) machine.boot running
-        command Done)
-        is (subst (λ verdict. AllowsReply machine running verdict Done) none allows) in
+        let did = subst (DidWork (evidence_of machine) machine.boot running) is
+        (subst (λ verdict. AllowsReply machine running verdict Done) none allows) in
         elim (Contains-append_cases (durable_changes machine) (drop machine.kept machine.log) change
-        (subst (λ log. Contains log change) (sym (take-append-drop machine.kept machine.log)) success.0)) [
+        (subst (λ log. Contains log change) (sym (take-append-drop machine.kept machine.log)) did.0)) [
           | inl there ↦ there
-          | inr behind ↦ absurd (another-change user (drop machine.kept machine.log) change success.1 behind refl)
+          | inr behind ↦ absurd (another-change user (drop machine.kept machine.log) change did.1 behind refl)
         ]

@@ -1,4 +1,5 @@
 pub mod ByCommand
+pub mod DefinedReply
 pub mod Durable
 pub mod Folds
 pub mod Records

@@ -1,6 +1,6 @@
 -- The machine that a journal's entries step: what each entry does to it, and when the entry may come.
 use Rattle.std.specs.Prelude.{◌≡◌, ◌≢◌, ℕ, ◌+◌, ◌≤◌, Bool, true, false, cond, List, [], ◌∷◌, ◌++◌, length, take, drop}
-use Rattle.std.specs.Prelude.{Option, Some, None, IsSomeAnd, IfSome, Contains}
+use Rattle.std.specs.Prelude.{Option, Some, None, IsSomeAnd, IfSome, Contains, nat_le, flat_map}
 use Rattle.std.specs.Ordering.{nat_cmp, eq_by_cmp}
 use Rattle.std.specs.FinMap as map
 use Rattle.tree_model.specs.declared.places.Class.{Class}
@@ -9,9 +9,10 @@ use Rattle.key_ring.specs.Ring.{Owner, has_owner, with_owner, without_owner}
 use Rattle.journal_model.specs.declared.commands.Actor.{Actor}
 use Rattle.journal_model.specs.declared.commands.Actor.TheVariants.{Boot}
 use Rattle.journal_model.specs.declared.commands.Command.{Command}
-use Rattle.journal_model.specs.declared.commands.Command.TheVariants.{Create, Lock, Recover}
+use Rattle.journal_model.specs.declared.commands.Command.TheVariants.{Create, Unlock, Lock, Recover}
 use Rattle.journal_model.specs.declared.commands.Reply.{Reply}
-use Rattle.journal_model.specs.declared.commands.Reply.TheVariants.{Done, Ended, TreeFault, StoreFault, RingFault}
+use Rattle.journal_model.specs.declared.commands.Reply.TheVariants.{Done, Ended, WrongSecret, TreeFault, StoreFault}
+use Rattle.journal_model.specs.declared.commands.Reply.TheVariants.{RingFault}
 use Rattle.journal_model.specs.declared.entries.Change.{Change}
 use Rattle.journal_model.specs.declared.entries.Change.TheVariants.{Create as Created}
 use Rattle.journal_model.specs.declared.entries.Entry.{Entry}
@@ -23,7 +24,7 @@ use Rattle.journal_model.specs.declared.refusals.Facts.{Facts}
 use Rattle.journal_model.specs.Actor.{actor_cmp}
 use Rattle.journal_model.specs.Command.{actor_of, user_in}
 use Rattle.journal_model.specs.Refusals.{refusal_of}
-use Rattle.journal_model.specs.Users.{Users, fold_changes, owner_of}
+use Rattle.journal_model.specs.Users.{Record, Users, HasSecret, fold_changes, owner_of}
 
 -- a command that began: its number, the refusal that was due then, the changes that it made so far, and how many
 -- commands its actor had begun before it in the same boot
@@ -89,10 +90,41 @@ abbrev pub is_unlocked : Option ℕ → List Owner → Bool
 is_unlocked None ring = false
 is_unlocked (Some user) ring = has_owner ring user Ce
 
+-- the most users that are there or being created
+abbrev pub max_users : ℕ
+max_users = 32
+
+-- the user, as a list, unless the user is there
+abbrev pub unless_there : Users → ℕ → List ℕ
+unless_there users user = cond (map.contains_key users user) [] (user ∷ [])
+
+-- the user whom a command makes and who isn't there yet, as a list
+abbrev pub new_user : Users → Command → List ℕ
+new_user users (Create user) = unless_there users user
+new_user users command = []
+
+-- the same of a command with a verdict: one that is refused makes none
+abbrev pub new_user_unless : Option Reply → Users → Command → List ℕ
+new_user_unless None users command = new_user users command
+new_user_unless (Some refusal) users command = []
+
+-- the user whom a running command makes and who isn't there yet, as a list
+abbrev pub creating : Users → Running → List ℕ
+creating users running = new_user_unless running.verdict users running.command
+
+-- the users who are being created and aren't there yet
+abbrev pub newcomers : Users → map.FinMap nat_cmp Running → List ℕ
+newcomers users running = flat_map (creating users) (map.values running)
+
+-- whether as many users are there or being created as there may be, each counted once
+abbrev pub is_crowded : Users → map.FinMap nat_cmp Running → Bool
+is_crowded users running = nat_le max_users (map.len users + length (newcomers users running))
+
 -- what decides whether a command is refused that begins on the machine
 abbrev pub facts_of : Machine → Command → Facts
 facts_of machine command = record {
   present = is_present (user_in command) (fold_changes machine.log);
+  crowded = is_crowded (fold_changes machine.log) machine.running;
   installed = is_unlocked (user_in command) machine.ring;
   ready = is_up machine.phase;
 }
@@ -167,6 +199,7 @@ AllowsChange boot running command change = ⊥
 -- a command makes this key of the user usable
 abbrev pub Installs : Command → ℕ → Class → Type 0
 Installs (Create owner) user class = owner ≡ user
+Installs (Unlock owner secret) user class = (owner ≡ user) × (class ≡ Ce)
 Installs command user class = ⊥
 
 -- a command takes this key of the user out of use
@@ -174,47 +207,77 @@ abbrev pub Evicts : Command → ℕ → Class → Type 0
 Evicts (Lock owner) user class = (owner ≡ user) × (class ≡ Ce)
 Evicts command user class = ⊥
 
--- whether the user's key of this class is in the key ring
-abbrev pub HasKey : Machine → ℕ → Class → Bool → Type 0
-HasKey machine user class there = has_owner machine.ring user class ≡ there
-
--- how a reply ends a command: it did its work, it was refused, or a device failed
+-- how a reply ends a command: it tells what came of its work, it was refused, or a device failed
 pub data ReplyKind : Type 0 where
-  Success Refusal Fault : ReplyKind
+  Outcome Refusal Fault : ReplyKind
 
 abbrev pub kind_of_reply : Reply → ReplyKind
-kind_of_reply Done = Success
-kind_of_reply (Ended count) = Success
+kind_of_reply Done = Outcome
+kind_of_reply (Ended count) = Outcome
+kind_of_reply WrongSecret = Outcome
 kind_of_reply TreeFault = Fault
 kind_of_reply StoreFault = Fault
 kind_of_reply RingFault = Fault
 kind_of_reply reply = Refusal
 
--- what a reply tells that a command did its work, by which changes are logged, whose are durable, and which keys are
--- installed or not, in this boot
-abbrev pub AllowsSuccess : (Change → Type 0) → (Option ℕ → Type 0) → (ℕ → Class → Bool → Type 0) → ℕ → Running
-    → Command → Reply → Type 0
-AllowsSuccess Logged Durable Has boot running (Create user) Done =
-    Logged (Created user (record { boot = boot; index = running.index })) × Durable (Some user)
-    × Has user De true × Has user Ce true
-AllowsSuccess Logged Durable Has boot running (Lock user) Done = Has user Ce false
-AllowsSuccess Logged Durable Has boot running Recover (Ended count) = (count ≡ 0) × Durable None
-AllowsSuccess Logged Durable Has boot running command reply = ⊥
+-- what an outcome is told by: which changes are logged, whose are durable, whether a user's key of a class is
+-- installed, and what is recorded of a user
+pub record Evidence : Type 1 where
+  pub logged : Change → Type 0
+  pub durable : Option ℕ → Type 0
+  pub has_key : ℕ → Class → Bool → Type 0
+  pub recorded : ℕ → Record → Type 0
 
--- a command that wasn't refused may be told that a device failed, or that it did its work
+-- a command did its work, in this boot
+abbrev pub DidWork : Evidence → ℕ → Running → Command → Type 0
+DidWork evidence boot running (Create user) =
+    evidence.logged (Created user (record { boot = boot; index = running.index })) × evidence.durable (Some user)
+    × evidence.has_key user De true × evidence.has_key user Ce true
+DidWork evidence boot running (Unlock user secret) = evidence.has_key user Ce true
+DidWork evidence boot running (Lock user) = evidence.has_key user Ce false
+DidWork evidence boot running Recover = ⊥
+
+-- a recovery did its work, with so many deletes
+abbrev pub DidRecover : Evidence → ℕ → Command → Type 0
+DidRecover evidence count Recover = (count ≡ 0) × evidence.durable None
+DidRecover evidence count command = ⊥
+
+-- no slot of the user is under the secret that a command was given
+abbrev pub LacksSecret : Evidence → ℕ → List ℕ → Type 0
+LacksSecret evidence user secret = (known : Record) × evidence.recorded user known × ¬ (HasSecret known secret)
+
+abbrev pub GaveWrongSecret : Evidence → Command → Type 0
+GaveWrongSecret evidence (Unlock user secret) = LacksSecret evidence user secret
+GaveWrongSecret evidence command = ⊥
+
+-- what came of a command's work, by evidence
+abbrev pub AllowsOutcome : Evidence → ℕ → Running → Reply → Type 0
+AllowsOutcome evidence boot running Done = DidWork evidence boot running running.command
+AllowsOutcome evidence boot running (Ended count) = DidRecover evidence count running.command
+AllowsOutcome evidence boot running WrongSecret = GaveWrongSecret evidence running.command
+AllowsOutcome evidence boot running reply = ⊥
+
+-- a command that wasn't refused may be told that a device failed, or what came of its work
 abbrev pub MayEnd : ReplyKind → Type 0 → Type 0
-MayEnd Success did = did
-MayEnd Refusal did = ⊥
-MayEnd Fault did = Unit {0}
+MayEnd Outcome came = came
+MayEnd Refusal came = ⊥
+MayEnd Fault came = Unit {0}
 
-abbrev pub Succeeds : Machine → Running → Reply → Type 0
-Succeeds machine running reply =
-    AllowsSuccess (Contains machine.log) (IsDurable machine) (HasKey machine) machine.boot running running.command
-    reply
+-- what a machine tells
+abbrev pub evidence_of : Machine → Evidence
+evidence_of machine = record {
+  logged = Contains machine.log;
+  durable = IsDurable machine;
+  has_key = λ user class there. has_owner machine.ring user class ≡ there;
+  recorded = λ user known. map.get (fold_changes machine.log) user ≡ Some known;
+}
+
+abbrev pub ComesTo : Machine → Running → Reply → Type 0
+ComesTo machine running reply = AllowsOutcome (evidence_of machine) machine.boot running reply
 
 abbrev pub AllowsReply : Machine → Running → Option Reply → Reply → Type 0
 AllowsReply machine running (Some verdict) reply = reply ≡ verdict
-AllowsReply machine running None reply = MayEnd (kind_of_reply reply) (Succeeds machine running reply)
+AllowsReply machine running None reply = MayEnd (kind_of_reply reply) (ComesTo machine running reply)
 
 -- a command may begin of an actor whose turns the machine takes and that runs none
 pub record MayBegin (before : List Entry) (machine : Machine) (number : ℕ) (actor : Actor)

@@ -1,8 +1,9 @@
 -- The map of users: who is there, since when, and under which secret each slot is.
-use Rattle.std.specs.Prelude.{ℕ, List, [], ◌∷◌}
+use Rattle.std.specs.Prelude.{◌≡◌, ℕ, List, [], ◌∷◌, Some}
 use Rattle.std.specs.Ordering.{nat_cmp}
 use Rattle.std.specs.FinMap as map
 use Rattle.tree_model.specs.Order.{slot_cmp}
+use Rattle.tree_model.specs.declared.places.Slot.{Slot}
 use Rattle.tree_model.specs.declared.places.Slot.TheVariants.{Current}
 use Rattle.journal_model.specs.declared.entries.Birth.{Birth}
 use Rattle.journal_model.specs.declared.entries.Change.{Change}
@@ -25,6 +26,11 @@ new_secrets = map.insert map.empty Current []
 
 abbrev pub no_users : Users
 no_users = map.empty
+
+-- a slot of the user is under the secret
+pub record HasSecret (known : Record) (secret : List ℕ) : Type 0 where
+  pub slot : Slot
+  pub under : map.get known.secrets slot ≡ Some secret
 
 -- the map after a change
 abbrev pub after_change : Users → Change → Users

@@ -6,6 +6,7 @@ ghost use Rattle.std.specs.Prelude.{◌≡◌, IfOk};
 ghost use Rattle.journal_model.specs.Actor.{actor_cmp, actor_total, actor_exact};
 ghost use Rattle.journal_model.specs.Command.{actor_of, user_in};
 
+use crate::secrets::Secret;
 use sorted_map::ExactOrd;
 use std::alloc::Global;
 use std::cmp::Ordering;
@@ -61,6 +62,8 @@ impl ExactOrd for Actor {
 pub enum Command {
     /// Makes a user's two keys, under the empty secret.
     Create { user: u32 },
+    /// Opens a user's credential key with a secret, and puts it into the key ring.
+    Unlock { user: u32, secret: Secret },
     /// Takes a user's credential key out of the key ring.
     Lock { user: u32 },
     /// Brings the machine up after a restart.
@@ -74,6 +77,7 @@ impl Command {
     {
         match self {
             Command::Create { user } | Command::Lock { user } => Actor::User(*user),
+            Command::Unlock { user, .. } => Actor::User(*user),
             Command::Recover => Actor::Boot,
         }
     }
@@ -89,14 +93,18 @@ impl Command {
     }
 
     /// The same command in memory of its own.
-    pub fn duplicate(&self, _alloc: Global) -> Result<Command, NoMemory>
+    pub fn duplicate(&self, alloc: Global) -> Result<Command, NoMemory>
         ensures { IfOk result (λ copied. copied ≡ self.now) }
     {
-        match self {
-            Command::Create { user } => Ok(Command::Create { user: *user }),
-            Command::Lock { user } => Ok(Command::Lock { user: *user }),
-            Command::Recover => Ok(Command::Recover),
-        }
+        Ok(match self {
+            Command::Create { user } => Command::Create { user: *user },
+            Command::Unlock { user, secret } => Command::Unlock {
+                user: *user,
+                secret: secret.duplicate(alloc)?,
+            },
+            Command::Lock { user } => Command::Lock { user: *user },
+            Command::Recover => Command::Recover,
+        })
     }
 }
 
@@ -109,10 +117,14 @@ pub enum Reply {
     Ended(u64),
     /// The user to be created was there when the command began.
     UserExists,
+    /// The users that were there and those being created were as many as there may be when the command began.
+    TooManyUsers,
     /// The user wasn't there when the command began.
     NoUser,
     /// The user's credential key was not in the key ring when the command began.
     NotInstalled,
+    /// The user has no slot under the secret that was given.
+    WrongSecret,
     /// The machine was ready when the recovery began.
     Ready,
     /// The tree device failed.

@@ -2,7 +2,7 @@ ghost use Rattle.journal_model.specs.DefinedReply.{DefinedReplyIsVerdict};
 ghost use Rattle.journal_model.specs.Durable.{LawOfSurvival, LawOfCreated};
 ghost use Rattle.journal_model.specs.Sealed.{SealedKeysOpen};
 
-/// For a create, the defined reply is the verdict of each machine whose log makes the map.
+/// Where a command has a defined reply, it is the verdict of each machine whose log makes the map.
 pub fn law_of_defined_reply()
     ensures { DefinedReplyIsVerdict }
 {}

@@ -10,7 +10,7 @@ ghost use Rattle.journal_model.specs.Users.{no_users, new_secrets, after_change}
 use crate::commands::{Command, Reply};
 use crate::entries::{Birth, Change, Entry};
 use crate::journal::Journal;
-use crate::refusals::{Facts, refusal};
+use crate::refusals::{Facts, MAX_USERS, refusal};
 use crate::secrets::Secret;
 use sorted_map::SortedMap;
 use std::alloc::Global;
@@ -156,13 +156,14 @@ fn follow(alloc: Global, log: &mut Vec<Change>, entry: &Entry) -> Result<(), NoM
     Ok(())
 }
 
-/// The refusal that the map of users alone decides: for a create, that the user is there, and for other commands of a
-/// user, that the user isn't. A recovery has none.
+/// The refusal that the map of users alone decides: for a create, that the user is there, or that as many users are
+/// there as there may be; and for other commands of a user, that the user isn't there. A recovery has none.
 pub fn defined_reply(command: &Command, map: &UserMap) -> Option<Reply>
     ensures { result ≡ defined_reply_of command.now map.now }
 {
     let facts = Facts {
         present: is_present(command, map),
+        crowded: MAX_USERS <= map.users().len(),
         installed: true,
         ready: false,
     };
@@ -239,6 +240,40 @@ mod tests {
         Ok(())
     }
 
+    /// The map once so many users are created, from user 0 on.
+    fn crowd(alloc: Global, users: u32) -> Result<UserMap, NoMemory> {
+        let mut journal = Journal::new(alloc);
+        for user in 0..users {
+            journal.reserve()?;
+            journal.push(creation(user, Birth { boot: 0, index: 0 }));
+        }
+        fold(alloc, &journal)
+    }
+
+    #[test]
+    fn refuses_a_user_too_many(rt: HostRuntime) -> Result<(), Fail> {
+        let alloc = rt.alloc();
+        for (users, user, reply) in [
+            (31, 32, None),
+            (32, 32, Some(Reply::TooManyUsers)),
+            (32, 31, Some(Reply::UserExists)),
+        ] {
+            let map = crowd(alloc, users)?;
+            assert_eq!(rt;
+                defined_reply(&Command::Create { user }, &map),
+                reply,
+                "user {user} beside {users}"
+            );
+        }
+        let map = crowd(alloc, 32)?;
+        assert_eq!(rt; defined_reply(&Command::Lock { user: 31 }, &map), None);
+        assert_eq!(rt;
+            defined_reply(&Command::Lock { user: 32 }, &map),
+            Some(Reply::NoUser)
+        );
+        Ok(())
+    }
+
     #[test]
     fn bounds_and_copies_parts(rt: HostRuntime) -> Result<(), Fail> {
         let alloc = rt.alloc();
@@ -250,6 +285,13 @@ mod tests {
 
         for (command, actor) in [
             (Command::Create { user: 10 }, Actor::User(10)),
+            (
+                Command::Unlock {
+                    user: 10,
+                    secret: Secret::empty(alloc),
+                },
+                Actor::User(10),
+            ),
             (Command::Recover, Actor::Boot),
         ] {
             assert_eq!(rt; command.duplicate(alloc)?.actor(), actor);

@@ -1,6 +1,8 @@
 pub mod Apart
 pub mod Births
+pub mod Fitting
 pub mod Lasting
+pub mod Opened
 pub mod Opening
 pub mod Present
 pub mod Storing

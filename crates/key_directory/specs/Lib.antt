@@ -1,3 +1,4 @@
+pub mod Opened
 pub mod Opens
 pub mod Shape
 pub mod VaultLaws

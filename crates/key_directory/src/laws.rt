@@ -1,3 +1,4 @@
+ghost use Rattle.key_directory.specs.Opened.{LawOfFitting, LawOfSlots, LawOfWrongSecrets, LawOfKeptOpening};
 ghost use Rattle.key_directory.specs.VaultLaws.{StoredOpens, LawOfBirths, LawOfLater, LawOfNames};
 
 /// A directory as it is stored opens with its secret to its key.
@@ -19,4 +20,24 @@ pub fn law_of_names()
 /// for a new user.
 pub fn law_of_births()
     ensures { LawOfBirths }
+{}
+
+/// What a directory whose shape fits a secret opens to with it.
+pub fn law_of_fitting()
+    ensures { LawOfFitting }
+{}
+
+/// What a slot's directory tells of a user who is there.
+pub fn law_of_slots()
+    ensures { LawOfSlots }
+{}
+
+/// Where no directory opens with a secret, none of the user's slots is under it.
+pub fn law_of_wrong_secrets()
+    ensures { LawOfWrongSecrets }
+{}
+
+/// A directory goes on opening to what it opened to, or to nothing.
+pub fn law_of_kept_opening()
+    ensures { LawOfKeptOpening }
 {}

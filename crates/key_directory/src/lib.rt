@@ -4,7 +4,7 @@
 pub mod laws;
 pub mod shapes;
 
-pub use shapes::{DirShape, ShapeFault, named, shape};
+pub use shapes::{DirShape, ShapeFault, bytes_in, fits_secret, named, shape};
 
 #[cfg(test)]
 mod tests;

@@ -3,6 +3,8 @@ ghost use Rattle.std.specs.Prelude.{◌≡◌, ◌⊎◌, IsErrOf, Some};
 ghost use Rattle.tree_model.specs.declared.files.FileName.TheVariants.{Version};
 ghost use Rattle.tree_model.specs.Held.{held_in, blob_in};
 ghost use Rattle.key_directory.specs.declared.shapes.ShapeFault.TheVariants.{NoMemory as WantsMemory};
+ghost use Rattle.key_directory.specs.Opened.{fits_secret};
+ghost use Rattle.key_directory.specs.Opens.{bytes_at};
 ghost use Rattle.key_directory.specs.Shape.{IsShapeOf, IsTested, version_fault, missing, length_fault, unbound};
 ghost use Rattle.key_directory.specs.Shape.{extra, form_of, sized};
 
@@ -130,6 +132,23 @@ pub fn named(dir: &Dir) -> Option<Blob>
         None => dir.get(FileName::Blob),
     };
     blob_of(file?.as_slice())
+}
+
+/// Whether a directory that names this may open with the secret.
+pub fn fits_secret(named: Option<Blob>, secret: &[u8]) -> bool
+    ensures { result ≡ fits_secret named secret.now }
+{
+    named.is_some() == secret.is_empty()
+}
+
+/// The bytes of a file, or none where the directory hasn't got it.
+pub fn bytes_in(dir: &Dir, file: FileName) -> &[u8]
+    ensures { result.now ≡ bytes_at (held_in dir.now file) }
+{
+    match dir.get(file) {
+        Some(bytes) => bytes.as_slice(),
+        None => &[],
+    }
 }
 
 /// The blob of these bytes, where they are 32.

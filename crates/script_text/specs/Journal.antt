@@ -3,8 +3,8 @@ use Rattle.std.specs.Prelude.{ℕ, List, [], ◌∷◌, ◌++◌, length, codes}
 use Rattle.std.specs.List.{flat_map}
 use Rattle.journal_model.specs.declared.commands.Command.{Command}
 use Rattle.journal_model.specs.declared.commands.Reply.{Reply}
-use Rattle.journal_model.specs.declared.commands.Reply.TheVariants.{Done, Ended, UserExists, NoUser}
-use Rattle.journal_model.specs.declared.commands.Reply.TheVariants.{NotInstalled, Ready}
+use Rattle.journal_model.specs.declared.commands.Reply.TheVariants.{Done, Ended, UserExists, TooManyUsers}
+use Rattle.journal_model.specs.declared.commands.Reply.TheVariants.{NoUser, NotInstalled, WrongSecret, Ready}
 use Rattle.journal_model.specs.declared.commands.Reply.TheVariants.{TreeFault, StoreFault, RingFault}
 use Rattle.journal_model.specs.declared.entries.Change.{Change}
 use Rattle.journal_model.specs.declared.entries.Change.TheVariants.{Create as Created}
@@ -28,8 +28,10 @@ abbrev pub reply_words : Reply → List (List ℕ)
 reply_words Done = codes "ok" ∷ []
 reply_words (Ended count) = codes "ok" ∷ decimal count ∷ []
 reply_words UserExists = codes "user-exists" ∷ []
+reply_words TooManyUsers = codes "too-many-users" ∷ []
 reply_words NoUser = codes "no-user" ∷ []
 reply_words NotInstalled = codes "not-installed" ∷ []
+reply_words WrongSecret = codes "wrong-secret" ∷ []
 reply_words Ready = codes "ready" ∷ []
 reply_words TreeFault = codes "tree-fault" ∷ []
 reply_words StoreFault = codes "store-fault" ∷ []

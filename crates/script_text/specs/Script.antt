@@ -2,7 +2,7 @@
 use Rattle.std.specs.Prelude.{◌≡◌, ◌≢◌, ℕ, ◌<◌, ◌≤◌, ◌^◌, Bool, true, false, IsTrue, not, List, [], ◌∷◌, ◌++◌}
 use Rattle.std.specs.Prelude.{length, Option, Some, None, is_none}
 use Rattle.std.specs.List.{flat_map, AllByRecursion}
-use Rattle.journal_model.specs.declared.commands.Command.TheVariants.{Create, Lock, Recover}
+use Rattle.journal_model.specs.declared.commands.Command.TheVariants.{Create, Unlock, Lock, Recover}
 use Rattle.script_text.specs.declared.arguments.Argument.TheVariants as argument
 use Rattle.script_text.specs.declared.arguments.Arguments.{Arguments}
 use Rattle.script_text.specs.declared.forms.Keyword.{Keyword}
@@ -17,6 +17,7 @@ use Rattle.script_text.specs.Forms.{word_of, kinds_of}
 abbrev pub row_of : Line → Keyword × Arguments
 row_of (Seed bytes) = (keyword.Seed, one_given (argument.Bytes bytes))
 row_of (Do (Create user)) = (keyword.Create, one_given (argument.Number user))
+row_of (Do (Unlock user secret)) = (keyword.Unlock, two_given (argument.Number user) (argument.Bytes secret))
 row_of (Do (Lock user)) = (keyword.Lock, one_given (argument.Number user))
 row_of (Do Recover) = (keyword.Recover, none_given)
 row_of (Turns actor count) = (keyword.Turn, two_given (argument.Actor actor) (argument.Number count))

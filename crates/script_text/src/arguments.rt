@@ -1,9 +1,9 @@
 //! What may follow the word that a line begins with: the kinds of arguments, and their values.
-ghost use Rattle.std.specs.Prelude.{◌≡◌, true};
+ghost use Rattle.std.specs.Prelude.{◌≡◌, ◌≤◌, true, length};
 ghost use Rattle.script_text.specs.Arguments.{number_in, bytes_in, actor_in, no_kinds, one_kind, two_kinds};
 ghost use Rattle.script_text.specs.Arguments.{three_kinds};
 
-use journal_model::Actor;
+use journal_model::{Actor, Secret};
 use std::alloc::Global;
 use tree_model::{Bytes, Fills};
 
@@ -113,6 +113,17 @@ impl Argument {
         match self {
             Argument::Bytes(bytes) => bytes,
             _ => Bytes::from_vec(Vec::new(alloc)),
+        }
+    }
+
+    /// The bytes, or none, as a secret.
+    pub fn into_secret(self, alloc: Global) -> Secret
+        requires short { length (bytes_in self) ≤ 64 }
+        ensures { result ≡ bytes_in self }
+    {
+        match Secret::new(self.into_bytes(alloc)) {
+            Some(secret) => secret,
+            None => unreachable!(),
         }
     }
 }

@@ -35,7 +35,7 @@ pub fn bytes_of(alloc: Global, word: &[u8]) -> Result<Option<Bytes>, NoMemory>
     Ok(None)
 }
 
-/// The same, of no more bytes than a seed or a fill may have.
+/// The same, of no more bytes than a seed, a secret or a fill may have.
 pub fn short_bytes_of(alloc: Global, word: &[u8]) -> Result<Option<Bytes>, NoMemory>
     ensures { IfOk result (Reads AreShort bytes_word word.now) }
 {

@@ -17,6 +17,7 @@ use tree_model::Cut;
 pub enum Keyword {
     Seed,
     Create,
+    Unlock,
     Lock,
     Recover,
     Turn,
@@ -42,9 +43,10 @@ const LEVEL: Kind = Kind::Number { least: 1, most: 1 };
 
 impl Keyword {
     /// All of them.
-    const EVERY: [Keyword; 8] = [
+    const EVERY: [Keyword; 9] = [
         Keyword::Seed,
         Keyword::Create,
+        Keyword::Unlock,
         Keyword::Lock,
         Keyword::Recover,
         Keyword::Turn,
@@ -61,6 +63,7 @@ impl Keyword {
         match self {
             Keyword::Seed => (b"seed", Kinds::one(Kind::Bytes)),
             Keyword::Create => (b"create", Kinds::one(ANY_NUMBER)),
+            Keyword::Unlock => (b"unlock", Kinds::two(ANY_NUMBER, Kind::Bytes)),
             Keyword::Lock => (b"lock", Kinds::one(ANY_NUMBER)),
             Keyword::Recover => (b"recover", Kinds::one(Kind::Never)),
             Keyword::Turn => (b"turn", Kinds::two(Kind::Actor, COUNT)),
@@ -99,8 +102,9 @@ impl Keyword {
 
     /// The line with this word and these arguments.
     pub fn line(self, alloc: Global, given: Arguments) -> Line
+        requires fits { AllFit (kinds_of self) given }
         ensures words { line_words result ≡ word_of self ∷ argument_words (kinds_of self) given }
-        ensures line { AllFit (kinds_of self) given → IsLine result }
+        ensures line { IsLine result }
     {
         let Arguments {
             first,
@@ -112,6 +116,10 @@ impl Keyword {
             Keyword::Seed => Line::Seed(first.into_bytes(alloc)),
             Keyword::Create => Line::Do(Command::Create {
                 user: first.number(),
+            }),
+            Keyword::Unlock => Line::Do(Command::Unlock {
+                user: first.number(),
+                secret: second.into_secret(alloc),
             }),
             Keyword::Lock => Line::Do(Command::Lock {
                 user: first.number(),

@@ -54,7 +54,7 @@ impl Script {
     /// The most fills that a stop has.
     pub const MOST_FILLS: usize = 32;
 
-    /// The most bytes that a seed or a fill has.
+    /// The most bytes that a seed, a secret or a fill has.
     pub const MOST_BYTES: usize = 64;
 
     /// The lines, in order.

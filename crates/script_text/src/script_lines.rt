@@ -55,6 +55,10 @@ pub fn push_command(alloc: Global, out: &mut Vec<u8>, command: &Command) -> Resu
         Command::Create { user } => {
             Row::one(Keyword::Create.text(), number(*user)).push(alloc, out)
         }
+        Command::Unlock { user, secret } => {
+            let secret = Shown::Bytes(secret.as_slice());
+            Row::two(Keyword::Unlock.text(), number(*user), secret).push(alloc, out)
+        }
         Command::Lock { user } => { Row::one(Keyword::Lock.text(), number(*user)).push(alloc, out) }
         Command::Recover => Row::alone(Keyword::Recover.text()).push(alloc, out),
     }

@@ -3,7 +3,7 @@ use crate::{
     EntryRow, KeyRow, Line, Script, Status, bytes_of, number_of, print_journal, print_keystore,
     print_ring, print_script, print_tree, read_script,
 };
-use journal_model::{Actor, Birth, Change, Command, Entry, Reply};
+use journal_model::{Actor, Birth, Change, Command, Entry, Reply, Secret};
 use keystore_model::Tag;
 use std::alloc::Global;
 use std::test::Fail;
@@ -19,10 +19,10 @@ const CREATED_TREE: &[u8] = b"tree 2\ndir de/10\nfile version 1 30\n\
      000000000000000000000000000000000000000000000000\n";
 
 const EVERY_ENTRY: &[u8] =
-    b"journal 14\nbegan 7 3 create 3\nbegan 8 cp create 4\nbegan 9 boot recover\nchanged 7 create 3 2 5\n\
-     synced\ninstalled 10 ce\nstopped 1\nrestarted 3 2\nreplied 7 ok\nreplied 8 ok 12\n\
-     replied 9 user-exists\nreplied 10 ready\nreplied 11 ring-fault\n\
-     replied 18446744073709551615 tree-fault\n";
+    b"journal 17\nbegan 7 3 create 3\nbegan 8 cp create 4\nbegan 9 boot recover\nbegan 10 10 unlock 10 7365\n\
+     changed 7 create 3 2 5\nsynced\ninstalled 10 ce\nstopped 1\nrestarted 3 2\nreplied 7 ok\n\
+     replied 8 ok 12\nreplied 9 user-exists\nreplied 10 wrong-secret\nreplied 11 ready\n\
+     replied 12 ring-fault\nreplied 13 too-many-users\nreplied 18446744073709551615 tree-fault\n";
 
 const EVERY_NAME: &[u8] =
     b"later 4 checkpoint 3\ndir de/0\nfile version 1 30\nfile encrypted_key 2 00ff\n\
@@ -49,6 +49,11 @@ const FULL_STOP: &[u8] =
 const LONG_FILL: &[u8] =
     b"stop 0 0a0a0a0a0a0a0a0a0a0a0a0a0a0a0a0a0a0a0a0a0a0a0a0a0a0a0a0a0a0a0a0a0a0a0a0a0a0a0a0a0a0a0a0a0a0a0a0\
      a0a0a0a0a0a0a0a0a0a0a0a0a0a0a0a0a0a\n";
+
+/// A secret with 65 bytes.
+const LONG_SECRET: &[u8] =
+    b"unlock 10 0a0a0a0a0a0a0a0a0a0a0a0a0a0a0a0a0a0a0a0a0a0a0a0a0a0a0a0a0a0a0a0a0a0a0a0a0a0a0a0a0a0a0a0a0\
+     a0a0a0a0a0a0a0a0a0a0a0a0a0a0a0a0a0a0a0a0a\n";
 
 /// A stop with 33 fills.
 const MANY_FILLS: &[u8] =
@@ -100,11 +105,13 @@ fn created_dir(alloc: Global, class: u8) -> Result<Dir, NoMemory> {
 
 #[test]
 fn prints_every_entry(rt: HostRuntime) -> Result<(), Fail> {
+    let secret = Secret::new(Bytes::copy(rt.alloc(), b"se")?).ok_or("a secret is too long")?;
     let mut entries = Vec::new(rt.alloc());
     for (number, actor, command) in [
         (7, Actor::User(3), Command::Create { user: 3 }),
         (8, Actor::Cp, Command::Create { user: 4 }),
         (9, Actor::Boot, Command::Recover),
+        (10, Actor::User(10), Command::Unlock { user: 10, secret }),
     ] {
         entries.push(Entry::Began {
             number,
@@ -130,8 +137,10 @@ fn prints_every_entry(rt: HostRuntime) -> Result<(), Fail> {
         (7, Reply::Done),
         (8, Reply::Ended(12)),
         (9, Reply::UserExists),
-        (10, Reply::Ready),
-        (11, Reply::RingFault),
+        (10, Reply::WrongSecret),
+        (11, Reply::Ready),
+        (12, Reply::RingFault),
+        (13, Reply::TooManyUsers),
         (u64::MAX, Reply::TreeFault),
     ] {
         entries.push(Entry::Replied { number, reply })?;
@@ -224,7 +233,7 @@ fn prints_a_ring(rt: HostRuntime) -> Result<(), Fail> {
 
 #[test]
 fn prints_scripts_back(rt: HostRuntime) -> Result<(), Fail> {
-    let texts: [&[u8]; 9] = [
+    let texts: [&[u8]; 11] = [
         b"",
         b"create 10\nall\n",
         b"create 10\nturn 10 6\nstop 1\nrestart 1\nall\n",
@@ -232,6 +241,8 @@ fn prints_scripts_back(rt: HostRuntime) -> Result<(), Fail> {
         b"create 10\nturn 10 11\nstop 1\nrestart 1\nall\n",
         b"create 10\nturn 10 11\nstop 0\nrestart 1\nall\n",
         b"seed -\ncreate 0\ncreate 4294967295\n",
+        b"unlock 10 -\n",
+        b"unlock 10 7365\n",
         b"seed 00ff\nturn boot 1\nturn 0 4096\nstop 4294967295 - = 0a\nrestart 1\nstop 0\n",
         FULL_STOP,
     ];
@@ -243,7 +254,7 @@ fn prints_scripts_back(rt: HostRuntime) -> Result<(), Fail> {
 
 #[test]
 fn refuses_scripts(rt: HostRuntime) -> Result<(), Fail> {
-    let texts: [&[u8]; 30] = [
+    let texts: [&[u8]; 33] = [
         b"create 010\n",
         b"create +1\n",
         b"create  10\n",
@@ -251,6 +262,8 @@ fn refuses_scripts(rt: HostRuntime) -> Result<(), Fail> {
         b"CREATE 10\n",
         b"make 10\n",
         b"unlock..\n",
+        b"unlock 10\n",
+        b"unlock 10 AB\n",
         b"recover\n",
         b"create 10",
         b"\n",
@@ -273,6 +286,7 @@ fn refuses_scripts(rt: HostRuntime) -> Result<(), Fail> {
         b"seed\n",
         b"all\nseed 00\n",
         LONG_FILL,
+        LONG_SECRET,
         MANY_FILLS,
     ];
     for text in texts {
@@ -283,7 +297,7 @@ fn refuses_scripts(rt: HostRuntime) -> Result<(), Fail> {
 
 #[test]
 fn reads_lines(rt: HostRuntime) -> Result<(), Fail> {
-    let text = b"seed 00ff\ncreate 10\nturn boot 2\nall\nstop 3 =\nrestart 1\n";
+    let text = b"seed 00ff\ncreate 10\nturn boot 2\nall\nstop 3 =\nrestart 1\nunlock 10 7365\n";
     let script = read_script(rt.alloc(), text)?;
     let seed = script.as_ref().map(Script::seed).unwrap_or(&[]);
     assert_eq!(rt; seed, [0, 255].as_slice());
@@ -293,6 +307,10 @@ fn reads_lines(rt: HostRuntime) -> Result<(), Fail> {
     assert!(rt; matches!(lines.get(3), Some(Line::All)));
     assert!(rt; matches!(lines.get(4), Some(Line::Stop(Cut { keep: 3, .. }))));
     assert!(rt; matches!(lines.get(5), Some(Line::Restart(1))));
+    assert!(rt;
+        matches!(lines.get(6), Some(Line::Do(Command::Unlock { user: 10, secret }))
+        if secret.as_slice() == b"se".as_slice())
+    );
     Ok(())
 }
 

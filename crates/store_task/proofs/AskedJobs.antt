@@ -3,6 +3,7 @@ use Rattle.std.proofs.Common.{◌≡◌, ℕ, true, false, List, [], ◌∷◌, 
 use Rattle.step_core.specs.declared.jobs.Job.{Job}
 use Rattle.step_core.specs.Jobs.{output_of}
 use Rattle.task_turns.specs.declared.calls.Answer.TheVariants.{Output}
+use Rattle.task_turns.specs.Turns.{HasWholeKey}
 use Rattle.store_task.specs.declared.turns.StoreSpec.{StoreSpec}
 use Rattle.store_task.specs.declared.stages.Stage.TheVariants.{First}
 use Rattle.store_task.specs.declared.stages.Progress.TheVariants.{Absent}
@@ -12,6 +13,7 @@ use Rattle.store_task.specs.Turns.{AsksFirst}
 -- what holds of a task that asks for the job
 pub record IsAsked (task : Task) (job : Job) : Type 0 where
   pub asks : asks_of task ≡ true
+  pub whole : HasWholeKey job.input
   pub hears : IsAnswer task (Output (output_of job.input))
   pub once : asks_of (after task (Output (output_of job.input))) ≡ false
   -- the directory isn't begun with the output
@@ -22,8 +24,8 @@ module _ (spec : StoreSpec) (number : ℕ) where
   begun secret = record { spec = record spec { secret = secret }; job = number; stage = First }
 
   asked-first : (secret : List ℕ) → IsAsked (begun secret) (first_job (begun secret))
-  asked-first [] = record { asks = refl; hears = refl; once = refl; absent = refl }
-  asked-first (byte ∷ bytes) = record { asks = refl; hears = λ e. cc; once = refl; absent = refl }
+  asked-first [] = record { asks = refl; whole = tt; hears = refl; once = refl; absent = refl }
+  asked-first (byte ∷ bytes) = record { asks = refl; whole = tt; hears = λ e. cc; once = refl; absent = refl }
 
 pub asked : (task : Task) (job : Job) → AsksFirst task job → IsAsked task job
 asked task job asks =

@@ -208,27 +208,19 @@ after_job (Opened key) = First
 
 abbrev pub after_first : Answer → Stage
 after_first (Output output) = after_job output
-after_first (IsBlob blob) = First
-after_first (Sealed sealed) = First
-after_first Done = First
+after_first answer = First
 
 abbrev pub after_tied : List ℕ → Answer → Stage
-after_tied app_id (Output output) = Tied app_id
 after_tied app_id (IsBlob blob) = Generated app_id blob
-after_tied app_id (Sealed sealed) = Tied app_id
-after_tied app_id Done = Tied app_id
+after_tied app_id answer = Tied app_id
 
 abbrev pub after_generated : List ℕ → Blob → Answer → Stage
-after_generated app_id blob (Output output) = Generated app_id blob
-after_generated app_id blob (IsBlob other) = Generated app_id blob
 after_generated app_id blob (Sealed sealed) = Storing (Some blob) sealed Absent
-after_generated app_id blob Done = Generated app_id blob
+after_generated app_id blob answer = Generated app_id blob
 
 abbrev pub after_storing : Option Blob → List ℕ → Progress → Answer → Stage
-after_storing blob sealed progress (Output output) = Storing blob sealed progress
-after_storing blob sealed progress (IsBlob other) = Storing blob sealed progress
-after_storing blob sealed progress (Sealed other) = Storing blob sealed progress
 after_storing blob sealed progress Done = Storing blob sealed (progress_after (is_some blob) progress)
+after_storing blob sealed progress answer = Storing blob sealed progress
 
 -- what answers nothing changes nothing
 abbrev pub stage_after : Stage → Answer → Stage
@@ -248,28 +240,20 @@ IsOutput secret (Opened key) = ⊥
 
 abbrev pub AnswersFirst : List ℕ → Answer → Type 0
 AnswersFirst secret (Output output) = IsOutput secret output
-AnswersFirst secret (IsBlob blob) = ⊥
-AnswersFirst secret (Sealed sealed) = ⊥
-AnswersFirst secret Done = ⊥
+AnswersFirst secret answer = ⊥
 
 -- a blob has 32 bytes
 abbrev pub AnswersGenerate : Answer → Type 0
-AnswersGenerate (Output output) = ⊥
 AnswersGenerate (IsBlob blob) = length blob ≡ 32
-AnswersGenerate (Sealed sealed) = ⊥
-AnswersGenerate Done = ⊥
+AnswersGenerate answer = ⊥
 
 abbrev pub AnswersEncrypt : Answer → Type 0
-AnswersEncrypt (Output output) = ⊥
-AnswersEncrypt (IsBlob blob) = ⊥
 AnswersEncrypt (Sealed sealed) = Unit {0}
-AnswersEncrypt Done = ⊥
+AnswersEncrypt answer = ⊥
 
 abbrev pub AnswersDone : Progress → Answer → Type 0
-AnswersDone progress (Output output) = ⊥
-AnswersDone progress (IsBlob blob) = ⊥
-AnswersDone progress (Sealed sealed) = ⊥
 AnswersDone progress Done = progress ≢ Stored
+AnswersDone progress answer = ⊥
 
 abbrev pub AnswersStage : List ℕ → Stage → Answer → Type 0
 AnswersStage secret First answer = AnswersFirst secret answer

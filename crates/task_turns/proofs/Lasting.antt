@@ -1,12 +1,22 @@
 -- The facts that a task rests on last until its next turn, as long as the entries of the blobs that it holds stay.
 use Rattle.std.proofs.Common.{◌≡◌, ℕ, List, [], ◌∷◌, sym, ap, ◌∙◌, subst}
-use Rattle.std.specs.Prelude.{is_some, Contains}
+use Rattle.std.proofs.Common.{◌⊎◌, inl, inr}
+use Rattle.std.specs.Prelude.{is_some, IsSome, Contains, Option, Some, None}
 use Rattle.tree_model.specs.declared.blobs.Blob.{Blob}
+use Rattle.tree_model.specs.declared.places.Slot.{Slot}
+use Rattle.tree_model.specs.declared.sites.Site.{Site}
+use Rattle.tree_model.specs.declared.sites.Site.TheVariants.{De, Ce}
+use Rattle.tree_model.specs.Dir.{Files}
+use Rattle.tree_model.specs.Named.{named_at}
+use Rattle.tree_model.specs.Parts.{Part}
 use Rattle.journal_model.specs.Made.{key_of}
 use Rattle.keystore_model.specs.declared.entry.Tag.{Tag}
+use Rattle.user_world.specs.OwnWorlds.{own_view}
 use Rattle.user_world.proofs.Facts.{later-facts}
-use Rattle.task_turns.specs.Shares.{Share, ShareFact, Own, KeyFor, SealedFor, Same, Given, HasKey}
-use Rattle.task_turns.specs.Shares.{IsKeyFor, Has, AllHas, LaterShare, IsHeld, AreHeld}
+use Rattle.key_directory.specs.Opened.{OpensTo}
+use Rattle.key_directory.proofs.Opened.{kept-opening}
+use Rattle.task_turns.specs.Shares.{Share, ShareFact, Own, KeyFor, SealedFor, Same, Given, HasKey, LeftToTry, Opens}
+use Rattle.task_turns.specs.Shares.{IsKeyFor, Has, AllHas, LaterShare, IsHeld, AreHeld, AreLeftToTry, IsFirstOpened}
 
 module _ (held : List Blob) (before after : Share) (later : LaterShare held before after) where
   abbrev key-lasts : (blob : Blob) (app_id : List ℕ) (tag : Tag) → Contains held blob
@@ -17,6 +27,60 @@ module _ (held : List Blob) (before after : Share) (later : LaterShare held befo
     bound = has.bound;
     tagged = has.tagged;
     current = has.current ∙ sym later.level;
+  }
+
+  view-lasts : own_view after.own ≡ own_view before.own
+  view-lasts = elim later.own [ inl same ↦ ap own_view same | inr settles ↦ ap own_view settles ]
+
+  seen-before : (site : Site) (found : Option Files) → own_view after.own site ≡ found
+      → own_view before.own site ≡ found
+  seen-before site found is = sym (ap (λ (part : Part). part site) view-lasts) ∙ is
+
+  seen-after : (site : Site) (found : Option Files) → own_view before.own site ≡ found
+      → own_view after.own site ≡ found
+  seen-after site found is = ap (λ (part : Part). part site) view-lasts ∙ is
+
+  -- a directory of the user's opens to what it opened to
+  opens-lasts : (present : IsSome (own_view before.own De)) (slot : Slot) (files : Files) (secret : List ℕ)
+      (key : Option (List ℕ)) → own_view before.own (Ce slot) ≡ Some files → OpensTo before.vault files secret key
+      → OpensTo after.vault files secret key
+  opens-lasts present slot files secret key there =
+      kept-opening before.vault after.vault files secret key later.level
+      (λ blob names. later.named blob
+      (record { present = present; site = Ce slot; names = ap named_at there ∙ names }))
+
+  there-lasts : IsSome (own_view before.own De) → IsSome (own_view after.own De)
+  there-lasts present = subst (λ (part : Part). IsSome (part De)) (sym view-lasts) present
+
+  left-to-try : (secret : List ℕ) (left : List Slot) → AreLeftToTry before secret left
+      → AreLeftToTry after secret left
+  left-to-try secret left has = record {
+    present = there-lasts has.present;
+    tried = λ slot files there.
+        let seen = seen-before (Ce slot) (Some files) there in
+        elim (has.tried slot files seen) as (λ _. Contains left slot ⊎ OpensTo after.vault files secret None) [
+          | inl among ↦ inl among
+          | inr shut ↦ inr (opens-lasts has.present slot files secret None seen shut)
+        ];
+    may = λ slot among.
+        let may = has.may slot among in record {
+          files = may.files;
+          there = seen-after (Ce slot) (Some may.files) may.there;
+          fits = may.fits;
+        };
+    order = has.order;
+  }
+
+  first-opened : (secret key : List ℕ) → IsFirstOpened before secret key → IsFirstOpened after secret key
+  first-opened secret key has = record {
+    present = there-lasts has.present;
+    slot = has.slot;
+    files = has.files;
+    there = seen-after (Ce has.slot) (Some has.files) has.there;
+    opens = opens-lasts has.present has.slot has.files secret (Some key) has.there has.opens;
+    newer = λ other dir newer there.
+        let seen = seen-before (Ce other) (Some dir) there in
+        opens-lasts has.present other dir secret None seen (has.newer other dir newer seen);
   }
 
   fact-lasts : (fact : ShareFact) → IsHeld held fact → Has fact before → Has fact after
@@ -30,6 +94,8 @@ module _ (held : List Blob) (before after : Share) (later : LaterShare held befo
   fact-lasts (Given key class user birth) is has =
       has ∙ sym (ap (λ seed. key_of seed class user birth) later.seed)
   fact-lasts (HasKey class there) is has = subst (λ keys. is_some (keys class) ≡ there) (sym later.keys) has
+  fact-lasts (LeftToTry secret left) is has = left-to-try secret left has
+  fact-lasts (Opens secret key) is has = first-opened secret key has
 
 pub facts-last : (facts : List ShareFact) (held : List Blob) (before after : Share) → LaterShare held before after
     → AreHeld held facts → AllHas facts before → AllHas facts after

@@ -1,16 +1,23 @@
 -- A user's share of the devices, the facts that a task rests on there, and when they last.
-use Rattle.std.specs.Prelude.{◌≡◌, ℕ, Bool, List, [], ◌∷◌, Option, Some, is_some, Contains}
+use Rattle.std.specs.Prelude.{◌≡◌, ◌⊎◌, ℕ, Bool, List, [], ◌∷◌, Option, Some, None, is_some, IsSome, Contains}
+use Rattle.std.specs.declared.cmp.Ordering.TheVariants.{Less}
 use Rattle.tree_model.specs.declared.blobs.Blob.{Blob}
 use Rattle.tree_model.specs.declared.places.Class.{Class}
+use Rattle.tree_model.specs.declared.places.Slot.{Slot}
+use Rattle.tree_model.specs.declared.sites.Site.TheVariants.{De, Ce}
+use Rattle.tree_model.specs.Dir.{Files}
+use Rattle.tree_model.specs.Named.{PartNames}
+use Rattle.tree_model.specs.Order.{slot_cmp}
 use Rattle.journal_model.specs.declared.entries.Birth.{Birth}
 use Rattle.journal_model.specs.Made.{key_of}
 use Rattle.seal_model.specs.Sealed.{sealed_text}
 use Rattle.keystore_model.specs.declared.entry.StoreEntry.{StoreEntry}
 use Rattle.keystore_model.specs.declared.entry.Tag.{Tag}
 use Rattle.keystore_model.specs.Store.{entry_of}
-use Rattle.user_world.specs.OwnWorlds.{OwnWorld}
+use Rattle.user_world.specs.OwnWorlds.{OwnWorld, OwnImagesStand, own_view}
 use Rattle.user_world.specs.Facts.{Fact, Holds, Later}
-use Rattle.key_directory.specs.Vaults.{Vault, KeepsEntry}
+use Rattle.key_directory.specs.Opened.{AreCurrent, HasNoAdditions, OpensTo, FitsFiles}
+use Rattle.key_directory.specs.Vaults.{Vault, KeepsEntry, sealed as sealed_in}
 
 pub record Share : Type 0 where
   pub own : OwnWorld
@@ -31,6 +38,9 @@ pub data ShareFact : Type 0 where
   Given : List ℕ → Class → ℕ → Birth → ShareFact
   -- whether the user's key of this class is in the ring
   HasKey : Class → Bool → ShareFact
+  -- of the user's slots these are left to try with a secret, and the key that the newest one opens to that opens
+  LeftToTry : List ℕ → List Slot → ShareFact
+  Opens : List ℕ → List ℕ → ShareFact
 
 pub record IsKeyFor (vault : Vault) (blob : Blob) (app_id : List ℕ) (tag : Tag) : Type 0 where
   pub entry : StoreEntry
@@ -44,6 +54,37 @@ pub record IsSealedFor (vault : Vault) (blob : Blob) (app_id : List ℕ) (tag : 
   pub keyed : IsKeyFor vault blob app_id tag
   pub sealed_so : sealed ≡ sealed_text keyed.entry.key nonce key
 
+-- slots, the newest first
+abbrev pub AreNewestFirst : List Slot → Type 0
+AreNewestFirst [] = Unit {0}
+AreNewestFirst (slot ∷ slots) =
+    ((other : Slot) → Contains slots other → slot_cmp other slot ≡ Less) × AreNewestFirst slots
+
+-- the slot has a directory that may open with the secret
+pub record MayOpen (share : Share) (secret : List ℕ) (slot : Slot) : Type 0 where
+  pub files : Files
+  pub there : own_view share.own (Ce slot) ≡ Some files
+  pub fits : FitsFiles files secret
+
+-- the user is there, and each of the user's slots is left to try or opens to nothing with the secret; those that are
+-- left may open, and stand with the newest first
+pub record AreLeftToTry (share : Share) (secret : List ℕ) (left : List Slot) : Type 0 where
+  pub present : IsSome (own_view share.own De)
+  pub tried : (slot : Slot) (files : Files) → own_view share.own (Ce slot) ≡ Some files
+      → Contains left slot ⊎ OpensTo share.vault files secret None
+  pub may : (slot : Slot) → Contains left slot → MayOpen share secret slot
+  pub order : AreNewestFirst left
+
+-- the user is there, and a slot opens with the secret to the key, while each newer one opens to nothing
+pub record IsFirstOpened (share : Share) (secret key : List ℕ) : Type 0 where
+  pub present : IsSome (own_view share.own De)
+  pub slot : Slot
+  pub files : Files
+  pub there : own_view share.own (Ce slot) ≡ Some files
+  pub opens : OpensTo share.vault files secret (Some key)
+  pub newer : (other : Slot) (dir : Files) → slot_cmp slot other ≡ Less → own_view share.own (Ce other) ≡ Some dir
+      → OpensTo share.vault dir secret None
+
 abbrev pub Has : ShareFact → Share → Type 0
 Has (Own fact) share = Holds fact share.own
 Has (KeyFor blob app_id tag) share = IsKeyFor share.vault blob app_id tag
@@ -51,19 +92,22 @@ Has (SealedFor blob app_id tag nonce key sealed) share = IsSealedFor share.vault
 Has (Same a b) share = a ≡ b
 Has (Given key class user birth) share = key ≡ key_of share.vault.seed class user birth
 Has (HasKey class there) share = is_some (share.keys class) ≡ there
+Has (LeftToTry secret left) share = AreLeftToTry share secret left
+Has (Opens secret key) share = IsFirstOpened share secret key
 
 abbrev pub AllHas : List ShareFact → Share → Type 0
 AllHas [] share = Unit {0}
 AllHas (fact ∷ facts) share = Has fact share × AllHas facts share
 
 -- between two turns of a task that holds these blobs, the user's world stays or is settled, the level, the seed and
--- the user's keys in the ring stay, and so do the entries of the blobs
+-- the user's keys in the ring stay, and so do the entries of the blobs and of those that the user's directories name
 pub record LaterShare (held : List Blob) (before after : Share) : Type 0 where
   pub own : Later before.own after.own
   pub level : after.vault.level ≡ before.vault.level
   pub seed : after.vault.seed ≡ before.vault.seed
   pub keys : after.keys ≡ before.keys
   pub kept : (blob : Blob) → Contains held blob → KeepsEntry before.vault after.vault blob
+  pub named : (blob : Blob) → PartNames (own_view before.own) blob → KeepsEntry before.vault after.vault blob
 
 -- the blob that a fact speaks of is held
 abbrev pub IsHeld : List Blob → ShareFact → Type 0
@@ -73,7 +117,16 @@ IsHeld held (SealedFor blob app_id tag nonce key sealed) = Contains held blob
 IsHeld held (Same a b) = Unit {0}
 IsHeld held (Given key class user birth) = Unit {0}
 IsHeld held (HasKey class there) = Unit {0}
+IsHeld held (LeftToTry secret left) = Unit {0}
+IsHeld held (Opens secret key) = Unit {0}
 
 abbrev pub AreHeld : List Blob → List ShareFact → Type 0
 AreHeld held [] = Unit {0}
 AreHeld held (fact ∷ facts) = IsHeld held fact × AreHeld held facts
+
+-- a user's share as a turn finds it: every part that a stop can leave stands, every entry is at the store's level, and
+-- nothing was added under a secret
+pub record IsSound (user : ℕ) (share : Share) : Type 0 where
+  pub images : OwnImagesStand (sealed_in share.vault) user share.own
+  pub current : AreCurrent share.vault
+  pub bare : HasNoAdditions (share.vault.attempts user)

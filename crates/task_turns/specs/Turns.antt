@@ -3,7 +3,11 @@ use Rattle.std.specs.Prelude.{◌⊎◌, ◌≡◌, Bool, true, false, cond, ℕ
 use Rattle.std.specs.Prelude.{length, Option, Some, None, IfSome, is_some, Contains}
 use Rattle.tree_model.specs.declared.blobs.Blob.{Blob}
 use Rattle.tree_model.specs.declared.places.Class.{Class}
+use Rattle.tree_model.specs.declared.places.Place.{Place}
 use Rattle.tree_model.specs.declared.sites.LocalOp.{LocalOp}
+use Rattle.tree_model.specs.Dir.{Files}
+use Rattle.tree_model.specs.Sites.{site_of}
+use Rattle.tree_model.specs.Tree.{user_of}
 use Rattle.key_ring.specs.Ring.{same_class}
 use Rattle.seal_model.specs.Sealed.{sealed_text}
 use Rattle.journal_model.specs.declared.commands.Actor.TheVariants.{User}
@@ -11,24 +15,28 @@ use Rattle.journal_model.specs.declared.commands.Reply.{Reply}
 use Rattle.journal_model.specs.Command.{actor_of}
 use Rattle.journal_model.specs.Made.{key_of}
 use Rattle.journal_model.specs.Users.{Record}
-use Rattle.journal_model.specs.Machine.{Running as Began, kind_of_reply, Success, AllowsChange}
-use Rattle.journal_model.specs.Machine.{AllowsSuccess, Installs, Evicts}
+use Rattle.journal_model.specs.Machine.{Running as Began, Evidence, kind_of_reply, Outcome, AllowsChange}
+use Rattle.journal_model.specs.Machine.{AllowsOutcome, Installs, Evicts}
 use Rattle.keystore_model.specs.declared.entry.StoreEntry.{StoreEntry}
 use Rattle.keystore_model.specs.declared.entry.Tag.{Tag}
 use Rattle.keystore_model.specs.Store.{entry_of}
 use Rattle.step_core.specs.declared.jobs.Job.{Job}
+use Rattle.step_core.specs.declared.jobs.JobInput.{JobInput}
+use Rattle.step_core.specs.declared.jobs.JobInput.TheVariants.{Unseal}
 use Rattle.step_core.specs.Jobs.{output_of}
 use Rattle.blob_custody.specs.Steps.{LetsGo}
 use Rattle.user_world.specs.declared.changes.LocalChange.{LocalChange}
 use Rattle.user_world.specs.Changes.{change_of}
 use Rattle.user_world.specs.OwnWorlds.{own_view, own_record, with_step, settled}
 use Rattle.user_world.specs.Turns.{StepShows, IsLogged, AreDurable, with_note, adds_local, takes_local}
+use Rattle.key_directory.specs.Opened.{answer_in}
 use Rattle.key_directory.specs.Vaults.{sealed}
 use Rattle.task_turns.specs.declared.calls.Answer.{Answer}
-use Rattle.task_turns.specs.declared.calls.Answer.TheVariants.{Done, Blob as IsBlob, Sealed, Output}
+use Rattle.task_turns.specs.declared.calls.Answer.TheVariants.{Done, Directory, Blob as IsBlob, Sealed, Decrypted}
+use Rattle.task_turns.specs.declared.calls.Answer.TheVariants.{Output}
 use Rattle.task_turns.specs.declared.calls.Call.{Call}
 use Rattle.task_turns.specs.declared.calls.Call.TheVariants.{Op, Sync, List as ListCall, Read}
-use Rattle.task_turns.specs.declared.calls.Call.TheVariants.{Generate, Encrypt, Entries, Add, Remove}
+use Rattle.task_turns.specs.declared.calls.Call.TheVariants.{Generate, Encrypt, Decrypt, Entries, Add, Remove}
 use Rattle.task_turns.specs.declared.next.Next.{Next}
 use Rattle.task_turns.specs.declared.next.Next.TheVariants.{Call as CallNext, Work as WorkNext, Reply as ReplyNext}
 use Rattle.task_turns.specs.Names.{Gains, BringsBlob}
@@ -210,6 +218,25 @@ pub record EncryptShows (seen : Seen) (scene : Scene) (blob : Blob)
       ≡ seen.now.held
   pub leads : Leads seen (Sealed (sealed_text under.entry.key nonce key)) scene None no_cost scene.share
 
+-- the task hears the directory that stands at a place of its user's
+pub record DirectoryShows (seen : Seen) (scene : Scene) (files : Files) : Type 0 where
+  pub held : (seen.then (Directory files)).held ≡ seen.now.held
+  pub leads : Leads seen (Directory files) scene None no_cost scene.share
+
+pub record ReadShows (seen : Seen) (scene : Scene) (place : Place) (change : Option LocalChange) : Type 0 where
+  pub quiet : change ≡ None
+  pub mine : user_of place ≡ seen.now.user
+  pub there : is_some (own_view scene.share.own (site_of place)) ≡ true
+  pub each : (files : Files) → own_view scene.share.own (site_of place) ≡ Some files → DirectoryShows seen scene files
+
+-- a sealed key is opened under the blob's entry, whatever comes of it
+pub record DecryptShows (seen : Seen) (scene : Scene) (blob : Blob) (app_id sealed_key : List ℕ)
+    (change : Option LocalChange) : Type 0 where
+  pub quiet : change ≡ None
+  pub long : length sealed_key ≡ 92
+  pub held : (seen.then (Decrypted (answer_in scene.share.vault blob app_id sealed_key))).held ≡ seen.now.held
+  pub leads : Leads seen (Decrypted (answer_in scene.share.vault blob app_id sealed_key)) scene None no_cost scene.share
+
 -- the user is there, and the key of this class is the one that the user was given
 pub record IsGiven (share : Share) (user : ℕ) (class : Class) (key : List ℕ) : Type 0 where
   pub known : Record
@@ -235,18 +262,18 @@ pub record RemoveShows (seen : Seen) (scene : Scene) (owner : ℕ) (class : Clas
   pub held : (seen.then Done).held ≡ seen.now.held
   pub leads : Leads seen Done scene None no_cost (without_key scene.share class)
 
--- the call may be made, keeps every image, and leads to what the task rests on then; a user's task lists and reads
--- nothing
+-- the call may be made, keeps every image, and leads to what the task rests on then; a user's task lists nothing
 abbrev pub CallStands : Seen → Scene → Call → Option LocalChange → Type 0
 CallStands seen scene (Op owner op names) change = OpShows seen scene owner op names change
 CallStands seen scene Sync change = SyncShows seen scene change
 CallStands seen scene (Generate tag app_id) change = GenerateShows seen scene tag app_id change
 CallStands seen scene (Encrypt blob app_id nonce key) change =
     (change ≡ None) × EncryptShows seen scene blob app_id nonce key
+CallStands seen scene (Decrypt blob app_id key) change = DecryptShows seen scene blob app_id key change
 CallStands seen scene (Add owner class key) change = AddShows seen scene owner class key change
 CallStands seen scene (Remove owner class) change = RemoveShows seen scene owner class change
 CallStands seen scene ListCall change = ⊥
-CallStands seen scene (Read place) change = ⊥
+CallStands seen scene (Read place) change = ReadShows seen scene place change
 CallStands seen scene Entries change = ⊥
 
 -- what a task has to show of a call that it makes next
@@ -267,22 +294,31 @@ pub record WorkShows (seen : Seen) (scene : Scene) (job : Job) : Type 0 where
 abbrev pub KeyIsIn : ℕ → Share → ℕ → Class → Bool → Type 0
 KeyIsIn user share owner class there = (owner ≡ user) × (is_some (share.keys class) ≡ there)
 
--- the command did its work, by its user's share
-abbrev pub Succeeds : ℕ → ℕ → Began → Share → Reply → Type 0
-Succeeds user boot began share reply =
-    AllowsSuccess (IsLogged user share.own) (AreDurable user share.own) (KeyIsIn user share) boot began began.command
-    reply
+-- what came of the command's work, by its user's share
+abbrev pub evidence_in : ℕ → Share → Evidence
+evidence_in user share = record {
+  logged = IsLogged user share.own;
+  durable = AreDurable user share.own;
+  has_key = KeyIsIn user share;
+  recorded = λ owner known. (owner ≡ user) × (own_record share.own ≡ Some known);
+}
 
--- and of a reply: it tells that the command did its work, and that it holds no blob
+-- and of a reply: it tells what came of the command's work, and that it holds no blob
 pub record ReplyShows (seen : Seen) (scene : Scene) (reply : Reply) : Type 0 where
-  pub success : kind_of_reply reply ≡ Success
-  pub may : Succeeds seen.now.user scene.boot scene.began scene.share reply
+  pub outcome : kind_of_reply reply ≡ Outcome
+  pub may : AllowsOutcome (evidence_in seen.now.user scene.share) scene.boot scene.began reply
   pub lasts : 0 < seen.now.left
   pub held : seen.now.held ≡ []
+
+-- a sealed key that a job opens has 92 bytes
+abbrev pub HasWholeKey : JobInput → Type 0
+HasWholeKey (Unseal discard secret sealed_key) = length sealed_key ≡ 92
+HasWholeKey input = Unit {0}
 
 -- a job that a task asks for: it may hear the output, and asks for no further job then
 pub record AsksFor (seen : Seen) (job : Job) : Type 0 where
   pub asks : seen.asks ≡ true
+  pub whole : HasWholeKey job.input
   pub hears : seen.hears (Output (output_of job.input))
   pub once : seen.asks_then (Output (output_of job.input)) ≡ false
 

@@ -1,6 +1,6 @@
-use keystore_model::Tag;
+use keystore_model::{Decrypted, Tag};
 use step_core::JobOutput;
-use tree_model::{Blob, Bytes, Class, LocalOp, Place};
+use tree_model::{Blob, Bytes, Class, Dir, LocalOp, Place};
 
 /// A counted call of a device, as a task names it.
 #[derive(Drop)]
@@ -30,6 +30,12 @@ pub enum Call {
         nonce: [u8; 12],
         key: [u8; 64],
     },
+    /// The keystore opens a sealed key under the blob's entry.
+    Decrypt {
+        blob: Blob,
+        app_id: Bytes,
+        sealed: Bytes,
+    },
     /// A list of the keystore's entries.
     Entries,
     /// The ring gets a user's key.
@@ -50,10 +56,14 @@ pub enum Call {
 pub enum Answer {
     /// It was done, and there is nothing to tell of it.
     Done,
+    /// The directory that was read.
+    Directory(Dir),
     /// The blob of the entry that was made.
     Blob(Blob),
     /// The nonce, the ciphertext and its tag: 92 bytes.
     Sealed(Bytes),
+    /// What the keystore opened.
+    Decrypted(Decrypted),
     /// What the job computed.
     Output(JobOutput),
 }

@@ -73,15 +73,15 @@ module _ (create : Creating) where
 
   clearing-job : (job : Job) → AsksFirst create.ce job → AsksFor (seen_of creates (staged Clearing)) job
   clearing-job job first = let is = asked create.ce job first in
-      record { asks = is.asks; hears = is.hears; once = ce-once job first }
+      record { asks = is.asks; whole = is.whole; hears = is.hears; once = ce-once job first }
 
   ce-job : (job : Job) → AsksFirst create.ce job → AsksFor (seen_of creates (staged StoringCe)) job
   ce-job job first = let is = asked create.ce job first in
-      record { asks = is.asks; hears = is.hears; once = ce-once job first }
+      record { asks = is.asks; whole = is.whole; hears = is.hears; once = ce-once job first }
 
   de-job : (job : Job) → AsksFirst create.de job → AsksFor (seen_of creates (staged StoringDe)) job
   de-job job first = let is = asked create.de job first in
-      record { asks = is.asks; hears = is.hears; once = de-once job first }
+      record { asks = is.asks; whole = is.whole; hears = is.hears; once = de-once job first }
 
   -- the turns of its store tasks
   module _ {E : Type 0} (result : Result Next E) where

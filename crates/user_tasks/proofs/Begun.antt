@@ -3,12 +3,13 @@ use Rattle.std.proofs.Common.{◌≡◌, ℕ, List, refl, sym, ap, ◌∙◌, su
 use Rattle.std.specs.Prelude.{Bool, true, false, None}
 use Rattle.tree_model.specs.declared.places.Class.{Class}
 use Rattle.tree_model.specs.declared.places.Class.TheVariants.{De as ForDe, Ce as ForCe}
+use Rattle.tree_model.specs.declared.places.Slot.{Slot}
 use Rattle.tree_model.proofs.Logic.{is_none}
 use Rattle.journal_model.specs.declared.commands.Command.TheVariants.{Create as CreateCommand}
-use Rattle.journal_model.specs.declared.commands.Reply.TheVariants.{UserExists}
+use Rattle.journal_model.specs.declared.commands.Reply.TheVariants.{UserExists, TooManyUsers}
 use Rattle.journal_model.specs.declared.entries.Birth.{Birth}
 use Rattle.journal_model.specs.Made.{boot_seed_of, stream_bytes, stream_number, made, key_place, key_of}
-use Rattle.journal_model.specs.Refusals.{due}
+use Rattle.journal_model.specs.Refusals.{due, first_due}
 use Rattle.keystore_model.proofs.Elements.{Contains-none}
 use Rattle.user_world.specs.OwnWorlds.{own_record}
 use Rattle.store_task.specs.declared.turns.StoreSpec.{StoreSpec}
@@ -33,11 +34,13 @@ key-given seed boot_seed class user birth spec made is =
     made.key ∙ ap (λ bytes. stream_bytes bytes (stream_number user birth.index) (key_place class) 16) is
     ∙ key-words seed class user birth
 
-none-present : (present : Bool) → due present UserExists ≡ None → present ≡ false
-none-present true e = cc
-none-present false e = refl
+none-present : (present crowded : Bool) → first_due (due present UserExists) (due crowded TooManyUsers) ≡ None
+    → present ≡ false
+none-present true crowded e = cc
+none-present false crowded e = refl
 
-module _ (user : ℕ) (birth : Birth) (boot_seed : List ℕ) (ce_spec de_spec : StoreSpec) (ce_job de_job : ℕ) where
+module _ (user : ℕ) (birth : Birth) (boot_seed : List ℕ) (slots : List Slot) (ce_spec de_spec : StoreSpec)
+    (ce_job de_job : ℕ) where
   abbrev first_create : Creating
   first_create = record {
     user = user;
@@ -48,19 +51,19 @@ module _ (user : ℕ) (birth : Birth) (boot_seed : List ℕ) (ce_spec de_spec : 
   }
 
   create-begins : IsMadeSpec user birth ForCe boot_seed ce_spec → IsMadeSpec user birth ForDe boot_seed de_spec
-      → Begins (CreateCommand user) birth boot_seed (OfCreate first_create)
+      → Begins (CreateCommand user) birth boot_seed slots (OfCreate first_create)
   create-begins ce_made de_made = record {
     owned = refl;
     few = omega arith;
     makes = omega arith;
     draws = omega arith;
     held = refl;
-    rests = λ facts share present installed accepted seeded. record {
+    rests = λ facts share present installed accepted seeded given. record {
       of_user = refl;
       accepted = refl;
       serves = record { command = refl; born = refl; changes = refl };
       facts = (
-        is_none (own_record share.own) (sym present ∙ none-present facts.present accepted),
+        is_none (own_record share.own) (sym present ∙ none-present facts.present facts.crowded accepted),
         (
           key-given share.vault.seed boot_seed ForCe user birth ce_spec ce_made seeded,
           (key-given share.vault.seed boot_seed ForDe user birth de_spec de_made seeded, tt),
@@ -72,14 +75,15 @@ module _ (user : ℕ) (birth : Birth) (boot_seed : List ℕ) (ce_spec de_spec : 
   }
 
 -- as it is made
-pub first-begins : (user : ℕ) (birth : Birth) (number : ℕ) (boot_seed : List ℕ) (create : Creating)
-    → IsFirst user birth number boot_seed create → Begins (CreateCommand user) birth boot_seed (OfCreate create)
-first-begins user birth number boot_seed create first =
-    subst (λ it. Begins (CreateCommand user) birth boot_seed (OfCreate it)) (sym same)
-    (create-begins user birth boot_seed create.ce.spec create.de.spec create.ce.job create.de.job first.ce.made
+pub first-begins : (user : ℕ) (birth : Birth) (number : ℕ) (boot_seed : List ℕ) (slots : List Slot)
+    (create : Creating) → IsFirst user birth number boot_seed create
+    → Begins (CreateCommand user) birth boot_seed slots (OfCreate create)
+first-begins user birth number boot_seed slots create first =
+    subst (λ it. Begins (CreateCommand user) birth boot_seed slots (OfCreate it)) (sym same)
+    (create-begins user birth boot_seed slots create.ce.spec create.de.spec create.ce.job create.de.job first.ce.made
     first.de.made)
   where
-    same : create ≡ first_create user birth boot_seed create.ce.spec create.de.spec create.ce.job create.de.job
+    same : create ≡ first_create user birth boot_seed slots create.ce.spec create.de.spec create.ce.job create.de.job
     same = λ i. record {
       user = first.of_user i;
       birth = first.born i;

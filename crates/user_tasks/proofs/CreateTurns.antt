@@ -1,11 +1,12 @@
 -- Each turn of a create shows what it has to, up to the one that makes its user.
 use Rattle.std.proofs.Common.{◌≡◌, ◌≢◌, ℕ, List, [], ◌∷◌, ◌++◌, refl, sym, ap, ◌∙◌, subst, arith, inl}
-use Rattle.std.specs.Prelude.{false, Option, Some, None, is_some, Result, Ok, Err, IfOk}
+use Rattle.std.specs.Prelude.{true, false, Option, Some, None, is_some, Result, Ok, Err, IfOk}
 use Rattle.tree_model.specs.declared.blobs.Blob.{Blob}
 use Rattle.tree_model.specs.declared.places.Class.TheVariants.{De as ForDe, Ce as ForCe}
 use Rattle.tree_model.specs.declared.places.Place.TheVariants.{De as DePlace, Ce as CePlace}
 use Rattle.tree_model.specs.declared.places.Slot.TheVariants.{Current, Cx}
 use Rattle.tree_model.specs.declared.sites.Site.{Site}
+use Rattle.tree_model.specs.Dir.{Files}
 use Rattle.tree_model.specs.declared.sites.Site.TheVariants.{De, Ce, Temp}
 use Rattle.tree_model.specs.declared.sites.LocalOp.{LocalOp}
 use Rattle.tree_model.specs.declared.sites.LocalOp.TheVariants.{RenameDir, RemoveDir}
@@ -21,9 +22,10 @@ use Rattle.user_world.proofs.OwnWorlds.{keeps-absent, absent-view}
 use Rattle.user_world.proofs.Facts.{knows-step}
 use Rattle.key_directory.specs.Vaults.{sealed}
 use Rattle.task_turns.specs.declared.calls.Answer.{Answer}
-use Rattle.task_turns.specs.declared.calls.Answer.TheVariants.{Done, Blob as IsBlob, Sealed, Output}
+use Rattle.task_turns.specs.declared.calls.Answer.TheVariants.{Done, Directory, Blob as IsBlob, Sealed, Decrypted}
+use Rattle.task_turns.specs.declared.calls.Answer.TheVariants.{Output}
 use Rattle.task_turns.specs.declared.calls.Call.TheVariants.{Op as OpCall, Sync as SyncCall, List as ListCall, Read}
-use Rattle.task_turns.specs.declared.calls.Call.TheVariants.{Generate, Encrypt, Entries, Add, Remove}
+use Rattle.task_turns.specs.declared.calls.Call.TheVariants.{Generate, Encrypt, Decrypt, Entries, Add, Remove}
 use Rattle.task_turns.specs.declared.next.Next.{Next}
 use Rattle.task_turns.specs.declared.next.Next.TheVariants.{Call as CallNext, Work as WorkNext, Reply as ReplyNext}
 use Rattle.task_turns.specs.Names.{Gains}
@@ -35,7 +37,7 @@ use Rattle.store_task.specs.declared.stages.Stage.TheVariants.{First, Tied, Gene
 use Rattle.store_task.specs.declared.stages.Progress.{Progress}
 use Rattle.store_task.specs.declared.stages.Progress.TheVariants.{Absent, Made, Versioned, Discardable, Named, Keyed}
 use Rattle.store_task.specs.declared.stages.Progress.TheVariants.{Settled, Stored}
-use Rattle.store_task.specs.Task.{Task, held_by, held_at, held_of, progress_of}
+use Rattle.store_task.specs.Task.{IsAnswer, Task, held_by, held_at, held_of, progress_of}
 use Rattle.store_task.specs.Task.{AnswersStage}
 use Rattle.store_task.specs.Turns.{TreeShows, PutsInPlace}
 use Rattle.store_task.proofs.HeldBlobs.{sealing-held}
@@ -239,8 +241,16 @@ module _ (user : ℕ) (birth : Birth) (ce de : Task) (scene : Scene) where
       })
 
   module _ (first : ce.stage ≡ First) where
-    not-done : AnswersStage ce.spec.secret ce.stage Done → ⊥
-    not-done answers = subst (λ stage. AnswersStage ce.spec.secret stage Done) first answers
+    unheard : (answer : Answer) → IsAnswer ce answer → AnswersStage ce.spec.secret First answer
+    unheard answer answers = subst (λ stage. AnswersStage ce.spec.secret stage answer) first answers
+
+    not-done : IsAnswer ce Done → ⊥
+    not-done answers = unheard Done answers
+
+    not-read : (found : Option Files) → is_some found ≡ true
+        → ((files : Files) → found ≡ Some files → IsAnswer ce (Directory files)) → ⊥
+    not-read None there each = cc
+    not-read (Some files) there each = unheard (Directory files) (each files refl)
 
     none-held : (gains : List Blob) → held_of ce ++ gains ≡ gains
     none-held gains = ap (λ stage. held_at stage ++ gains) first
@@ -250,7 +260,8 @@ module _ (user : ℕ) (birth : Birth) (ce de : Task) (scene : Scene) where
     as-cleared (CallNext (OpCall owner op names) change) shows = absurd (not-done shows.stands.leads.hears)
     as-cleared (CallNext SyncCall change) shows = absurd (not-done shows.stands.leads.hears)
     as-cleared (CallNext ListCall change) shows = absurd shows.stands
-    as-cleared (CallNext (Read place) change) shows = absurd shows.stands
+    as-cleared (CallNext (Read place) change) shows =
+        absurd (not-read _ shows.stands.there (λ files is. (shows.stands.each files is).leads.hears))
     as-cleared (CallNext (Generate tag app_id) change) shows = record {
       stands = record {
         quiet = shows.stands.quiet;
@@ -276,6 +287,8 @@ module _ (user : ℕ) (birth : Birth) (ce de : Task) (scene : Scene) where
       may = shows.may;
       lasts = shows.lasts;
     }
+    as-cleared (CallNext (Decrypt blob app_id text) change) shows =
+        absurd (unheard (Decrypted _) shows.stands.leads.hears)
     as-cleared (CallNext Entries change) shows = absurd shows.stands
     as-cleared (CallNext (Add owner class key) change) shows = absurd (not-done shows.stands.leads.hears)
     as-cleared (CallNext (Remove owner class) change) shows = absurd (not-done shows.stands.leads.hears)
@@ -284,7 +297,7 @@ module _ (user : ℕ) (birth : Birth) (ce de : Task) (scene : Scene) where
       leads = leads-cleared (Output _) None _ _ shows.leads.hears refl shows.leads;
     }
     as-cleared (ReplyNext reply) shows = record {
-      success = shows.success;
+      outcome = shows.outcome;
       may = shows.may;
       lasts = shows.lasts;
       held = refl;
@@ -390,24 +403,25 @@ module _ (create : Creating) (is : IsCreating create) (way : Option Site) where
       → next ≡ CallNext (OpCall create.user (RemoveDir site) None) None
       → UserTurns (OfCreate create) way next
   clear-turn site next here first named = at-stage Clearing next here
-      (λ scene images clear rests. subst (TurnShows (seen_of creates (staged Clearing)) scene) (sym named)
-      (clear-shows scene images rests.facts site (subst (IsNextToClear (own_view scene.share.own)) first clear)
+      (λ scene sound clear rests. subst (TurnShows (seen_of creates (staged Clearing)) scene) (sym named)
+      (clear-shows scene sound.images rests.facts site (subst (IsNextToClear (own_view scene.share.own)) first clear)
       rests.serves))
 
   pub begin-turn : (next : Next) → create.stage ≡ Clearing → way ≡ None → IsStoreTurn create.user create.ce None next
       → UserTurns (OfCreate create) way next
   begin-turn next here nothing turn = at-stage Clearing next here
-      (λ scene images clear rests.
+      (λ scene sound clear rests.
       let stages = stage-fits Clearing here in
       as-cleared create.user create.birth create.ce create.de scene stages.0 next
       (ce-shows create.user create.birth create.ce create.de is.ce is.de scene stages.1
-      (begun-has scene images rests.facts stages.0 (subst (IsNextToClear (own_view scene.share.own)) nothing clear))
+      (begun-has scene sound.images rests.facts stages.0
+      (subst (IsNextToClear (own_view scene.share.own)) nothing clear))
       (record { command = rests.serves.command; born = rests.serves.born; changes = rests.serves.changes }) next turn))
 
   pub ce-turn : (next : Next) → create.stage ≡ StoringCe → IsStoreTurn create.user create.ce None next
       → UserTurns (OfCreate create) way next
   ce-turn next here turn = at-stage StoringCe next here
-      (λ scene images clear rests.
+      (λ scene sound clear rests.
       ce-shows create.user create.birth create.ce create.de is.ce is.de scene (stage-fits StoringCe here).1 rests.facts
       rests.serves next turn)
 
@@ -415,7 +429,7 @@ module _ (create : Creating) (is : IsCreating create) (way : Option Site) where
       → IsStoreTurn create.user create.de (Some (Born create.birth)) next
       → UserTurns (OfCreate create) way next
   de-turn next here turn = at-stage StoringDe next here
-      (λ scene images clear rests.
+      (λ scene sound clear rests.
       de-shows create.user create.birth create.ce create.de is.ce is.de scene (stage-fits StoringDe here).0 rests.facts
       rests.serves next turn)
 

@@ -5,16 +5,15 @@ use Rattle.std.specs.Prelude.{Option, Some, None}
 use Rattle.tree_model.specs.declared.places.Class.TheVariants.{De as ForDe, Ce as ForCe}
 use Rattle.tree_model.specs.declared.sites.Site.{Site}
 use Rattle.journal_model.specs.declared.commands.Reply.TheVariants.{Done as DoneReply}
-use Rattle.journal_model.specs.Machine.{Running as Began, AllowsSuccess, Installs}
+use Rattle.journal_model.specs.Machine.{Running as Began, DidWork, Installs}
 use Rattle.user_world.specs.declared.changes.LocalChange.TheVariants.{Born}
 use Rattle.user_world.specs.Facts.{Knows, Logged, Holds}
-use Rattle.user_world.specs.Turns.{IsLogged, AreDurable}
 use Rattle.user_world.proofs.Facts.{later-facts}
 use Rattle.task_turns.specs.declared.calls.Answer.TheVariants.{Done}
 use Rattle.task_turns.specs.declared.calls.Call.TheVariants.{Sync, Add}
 use Rattle.task_turns.specs.declared.next.Next.{Next}
 use Rattle.task_turns.specs.declared.next.Next.TheVariants.{Call as CallNext, Reply as ReplyNext}
-use Rattle.task_turns.specs.Turns.{KeyIsIn}
+use Rattle.task_turns.specs.Turns.{evidence_in}
 use Rattle.user_tasks.specs.declared.creates.Stage.{Stage}
 use Rattle.user_tasks.specs.declared.creates.Stage.TheVariants.{Created, InstallingDe, InstallingCe, Ended}
 use Rattle.user_tasks.specs.Create.{Creating, IsCreating, IsCreate, new_record, changes_at, creates}
@@ -41,7 +40,7 @@ module _ (create : Creating) (is : IsCreating create) (way : Option Site) where
       → UserTurns (OfCreate create) way next
   sync-turn next here named = subst (UserTurns (OfCreate create) way) (sym named)
       (at-stage create is way Created (CallNext Sync None) here
-      (λ scene images clear rests.
+      (λ scene sound clear rests.
       let lasting = later-facts (Logged (Born create.birth) ∷ Knows (Some (new_record create.birth)) ∷ [])
       scene.share.own _ (inr refl) (rests.facts.0, (rests.facts.1.0, tt)) in record {
         stands = record {
@@ -70,7 +69,7 @@ module _ (create : Creating) (is : IsCreating create) (way : Option Site) where
       → UserTurns (OfCreate create) way next
   de-installed next here named = subst (UserTurns (OfCreate create) way) (sym named)
       (at-stage create is way InstallingDe (CallNext (Add create.user ForDe create.de.spec.key) None) here
-      (λ scene images clear rests. record {
+      (λ scene sound clear rests. record {
         stands = record {
           quiet = refl;
           mine = refl;
@@ -103,7 +102,7 @@ module _ (create : Creating) (is : IsCreating create) (way : Option Site) where
       → UserTurns (OfCreate create) way next
   ce-installed next here named = subst (UserTurns (OfCreate create) way) (sym named)
       (at-stage create is way InstallingCe (CallNext (Add create.user ForCe create.ce.spec.key) None) here
-      (λ scene images clear rests. record {
+      (λ scene sound clear rests. record {
         stands = record {
           quiet = refl;
           mine = refl;
@@ -127,11 +126,10 @@ module _ (create : Creating) (is : IsCreating create) (way : Option Site) where
   -- both keys are usable when it is told so
   pub reply-turn : create.stage ≡ Ended → UserTurns (OfCreate create) way (ReplyNext DoneReply)
   reply-turn here = at-stage create is way Ended (ReplyNext DoneReply) here
-      (λ scene images clear rests. record {
-        success = refl;
-        may = subst (λ command. AllowsSuccess (IsLogged create.user scene.share.own)
-            (AreDurable create.user scene.share.own) (KeyIsIn create.user scene.share) scene.boot scene.began command
-            DoneReply) (sym rests.serves.command) (
+      (λ scene sound clear rests. record {
+        outcome = refl;
+        may = subst (DidWork (evidence_in create.user scene.share) scene.boot scene.began)
+            (sym rests.serves.command) (
               (refl, subst (λ birth. Holds (Logged (Born birth)) scene.share.own) rests.serves.born rests.facts.0),
               (refl, rests.facts.1.0),
               (refl, rests.facts.1.1.0),

@@ -68,7 +68,7 @@ de-job create (ReplyNext reply) is = tt
 pub call-jobs : (create : Creating) (way : Option Site) (next : Next) (call : Call) (change : Option LocalChange)
     → next ≡ CallNext call change → UserJobs (OfCreate create) way next
 call-jobs create way next call change named =
-    subst (UserJobs (OfCreate create) way) (sym named) (λ scene images clear rests. tt)
+    subst (UserJobs (OfCreate create) way) (sym named) (λ scene sound clear rests. tt)
 
 module _ (create : Creating) (is : IsCreating create) (way : Option Site) where
   at-stage : (stage : Stage) (next : Next) → create.stage ≡ stage
@@ -81,20 +81,20 @@ module _ (create : Creating) (is : IsCreating create) (way : Option Site) where
       → IsStoreTurn create.user create.ce None next
       → UserJobs (OfCreate create) way next
   begin-jobs next here nothing turn = at-stage Clearing next here
-      (λ scene images clear rests.
-      let has = begun-has create is way scene images rests.facts (stage-fits create is way Clearing here).0
+      (λ scene sound clear rests.
+      let has = begun-has create is way scene sound.images rests.facts (stage-fits create is way Clearing here).0
       (subst (IsNextToClear (own_view scene.share.own)) nothing clear) in
       ce-job create next (store-job create.user create.ce None scene.share next has.1.1.1.1 turn))
 
   pub ce-jobs : (next : Next) → create.stage ≡ StoringCe → IsStoreTurn create.user create.ce None next
       → UserJobs (OfCreate create) way next
   ce-jobs next here turn = at-stage StoringCe next here
-      (λ scene images clear rests.
+      (λ scene sound clear rests.
       ce-job create next (store-job create.user create.ce None scene.share next rests.facts.1.1.1.1 turn))
 
   pub de-jobs : (change : Option LocalChange) (next : Next) → create.stage ≡ StoringDe
       → IsStoreTurn create.user create.de change next
       → UserJobs (OfCreate create) way next
   de-jobs change next here turn = at-stage StoringDe next here
-      (λ scene images clear rests.
+      (λ scene sound clear rests.
       de-job create next (store-job create.user create.de change scene.share next rests.facts.1.1.1.1.1 turn))

@@ -8,5 +8,6 @@ mod Installing
 mod AskedJobs
 mod JobNumbers
 mod LockTurns
+mod UnlockTurns
 mod Begun
 mod Refuted

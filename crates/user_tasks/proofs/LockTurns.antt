@@ -2,17 +2,17 @@
 use Rattle.std.proofs.Common.{◌≡◌, ℕ, List, refl, sym, subst, arith}
 use Rattle.std.specs.Prelude.{Option}
 use Rattle.tree_model.specs.declared.places.Class.TheVariants.{Ce as ForCe}
+use Rattle.tree_model.specs.declared.places.Slot.{Slot}
 use Rattle.tree_model.specs.declared.sites.Site.{Site}
 use Rattle.journal_model.specs.declared.commands.Command.TheVariants.{Lock as LockCommand}
 use Rattle.journal_model.specs.declared.commands.Reply.TheVariants.{Done as DoneReply}
 use Rattle.journal_model.specs.declared.entries.Birth.{Birth}
-use Rattle.journal_model.specs.Machine.{AllowsSuccess, Evicts}
+use Rattle.journal_model.specs.Machine.{DidWork, Evicts}
 use Rattle.keystore_model.proofs.Elements.{Contains-none}
-use Rattle.user_world.specs.Turns.{IsLogged, AreDurable}
 use Rattle.task_turns.specs.declared.calls.Call.TheVariants.{Remove}
 use Rattle.task_turns.specs.declared.next.Next.{Next}
 use Rattle.task_turns.specs.declared.next.Next.TheVariants.{Reply as ReplyNext}
-use Rattle.task_turns.specs.Turns.{KeyIsIn, Asks, seen_of}
+use Rattle.task_turns.specs.Turns.{evidence_in, Asks, seen_of}
 use Rattle.user_tasks.specs.declared.locks.Lock.{Lock}
 use Rattle.user_tasks.specs.declared.locks.LockStage.{LockStage}
 use Rattle.user_tasks.specs.declared.locks.LockStage.TheVariants.{Evicting, Ended}
@@ -31,7 +31,7 @@ module _ (lock : Lock) where
   evict-turn next here named site =
       subst (UserTurns (OfLock lock) site) (sym named)
       (subst (λ stage. UserTurns (OfLock (staged stage)) site (quiet_turn (Remove lock.user ForCe))) (sym here)
-      (λ scene images clear rests. record {
+      (λ scene sound clear rests. record {
         stands = record {
           quiet = refl;
           mine = refl;
@@ -55,11 +55,10 @@ module _ (lock : Lock) where
   -- and then it is told so
   pub reply-turn : lock.stage ≡ Ended → (site : Option Site) → UserTurns (OfLock lock) site (ReplyNext DoneReply)
   reply-turn here site = subst (λ stage. UserTurns (OfLock (staged stage)) site (ReplyNext DoneReply)) (sym here)
-      (λ scene images clear rests. record {
-        success = refl;
-        may = subst (λ command. AllowsSuccess (IsLogged lock.user scene.share.own)
-            (AreDurable lock.user scene.share.own) (KeyIsIn lock.user scene.share) scene.boot scene.began command
-            DoneReply) (sym rests.serves.command) (refl, rests.facts.0);
+      (λ scene sound clear rests. record {
+        outcome = refl;
+        may = subst (DidWork (evidence_in lock.user scene.share) scene.boot scene.began) (sym rests.serves.command)
+            (refl, rests.facts.0);
         lasts = omega arith;
         held = refl;
       })
@@ -69,15 +68,15 @@ module _ (lock : Lock) where
       → Asks (seen_of tasks (OfLock lock)) next
   asks-none next named = subst (Asks (seen_of tasks (OfLock lock))) (sym named) tt
 
-pub lock-begins : (user : ℕ) (birth : Birth) (boot_seed : List ℕ)
-    → Begins (LockCommand user) birth boot_seed (OfLock (first_lock user))
-lock-begins user birth boot_seed = record {
+pub lock-begins : (user : ℕ) (birth : Birth) (boot_seed : List ℕ) (slots : List Slot)
+    → Begins (LockCommand user) birth boot_seed slots (OfLock (first_lock user))
+lock-begins user birth boot_seed slots = record {
   owned = refl;
   few = omega arith;
   makes = omega arith;
   draws = omega arith;
   held = refl;
-  rests = λ facts share present installed accepted seeded. record {
+  rests = λ facts share present installed accepted seeded given. record {
     of_user = refl;
     accepted = refl;
     serves = record { command = refl };

@@ -1,5 +1,5 @@
 -- Scenes that refute wrong plans.
-use Rattle.std.proofs.Common.{◌≡◌, cond, List, [], ◌∷◌, length, refl, sym, ap, ◌∙◌, subst, inl, inr}
+use Rattle.std.proofs.Common.{Bool, true, false, ◌≡◌, cond, List, [], ◌∷◌, length, refl, sym, ap, ◌∙◌, subst, inl, inr}
 use Rattle.std.specs.Prelude.{Some, None, Contains}
 use Rattle.std.proofs.lemmas.Bool.{false≢true}
 use Rattle.std.proofs.lemmas.Option.{none-some, same_Some}
@@ -24,7 +24,7 @@ use Rattle.user_world.specs.Meaning.{PartStands}
 use Rattle.user_world.specs.OwnWorlds.{OwnWorld, OwnImagesStand, settled}
 use Rattle.blob_custody.proofs.Renamings.{whole-rename}
 use Rattle.key_directory.specs.Vaults.{Vault, sealed}
-use Rattle.task_turns.specs.Shares.{IsSealedFor}
+use Rattle.task_turns.specs.Shares.{IsSound, IsSealedFor}
 use Rattle.task_turns.specs.Turns.{IsOwned, Scene, Rests}
 use Rattle.store_task.specs.declared.stages.Progress.{Progress}
 use Rattle.store_task.specs.declared.stages.Progress.TheVariants.{Settled, Stored}
@@ -114,6 +114,23 @@ module _ (plan : Plan) where
       | inr none ↦ absurd (Contains-none blob none)
     ]
   ]
+
+  same-level : (ce_found de_found : Bool) (entry : StoreEntry)
+      → cond ce_found (Some (entry_for ForCe)) (cond de_found (Some (entry_for ForDe)) None) ≡ Some entry
+      → entry.level ≡ vault.level
+  same-level true de_found entry is =
+      let same : entry_for ForCe ≡ entry = cc in sym (ap (λ (e : StoreEntry). e.level) same)
+  same-level false true entry is =
+      let same : entry_for ForDe ≡ entry = cc in sym (ap (λ (e : StoreEntry). e.level) same)
+  same-level false false entry is = cc
+
+  sound-in : (own : OwnWorld) → OwnImagesStand (sealed vault) plan.user own
+      → IsSound plan.user (record { own = own; vault = vault; keys = λ class. None })
+  sound-in own images = record {
+    images = images;
+    current = λ blob entry is. same-level _ _ entry is;
+    bare = λ added among. Contains-none added among;
+  }
 
   settled-rests : Rests (create_rest (create_at plan Settled StoringDe)) plan.birth.boot
       (scene_at StoringDe still).began (scene_at StoringDe still).share
@@ -259,37 +276,44 @@ no-cons x xs e = cc
 
 pub replies-before-sync : RepliesBeforeSync
 replies-before-sync plan turns =
-    let shows = turns (scene_at plan Created (pending_birth plan)) (created-stands plan) (tt, refl)
+    let shows = turns (scene_at plan Created (pending_birth plan))
+    (sound-in plan (pending_birth plan) (created-stands plan)) (tt, refl)
     (created-rests plan) in no-cons (Born plan.birth) [] shows.may.1.1
 
 pub leaves-out-device : LeavesOutDevice
 leaves-out-device plan turns =
-    let shows = turns (scene_at plan StoringDe (still plan)) refl (tt, refl) (settled-rests plan) in
+    let shows = turns (scene_at plan StoringDe (still plan)) (sound-in plan (still plan) refl) (tt, refl)
+    (settled-rests plan) in
     no-cons plan.ce_blob (plan.de_blob ∷ []) shows.held
 
 pub hides-change : HidesChange
 hides-change plan turns =
-    let shows = turns (scene_at plan StoringDe (still plan)) refl (tt, refl) (settled-rests plan) in
+    let shows = turns (scene_at plan StoringDe (still plan)) (sound-in plan (still plan) refl) (tt, refl)
+    (settled-rests plan) in
     none-some _ (sym shows.stands.step.noted)
 
 pub hides-blob : HidesBlob
 hides-blob plan turns =
-    let shows = turns (scene_at plan StoringDe (still plan)) refl (tt, refl) (settled-rests plan) in
+    let shows = turns (scene_at plan StoringDe (still plan)) (sound-in plan (still plan) refl) (tt, refl)
+    (settled-rests plan) in
     none-some plan.de_blob (shows.stands.brings.brings
     ∙ files-named (spec_of plan ForDe).discard (Some plan.de_blob) (text_of plan ForDe))
 
 pub touches-other : TouchesOther
 touches-other plan other apart turns =
-    apart (turns (scene_at plan StoringDe (still plan)) refl (tt, refl) (settled-rests plan)).stands.mine
+    apart (turns (scene_at plan StoringDe (still plan)) (sound-in plan (still plan) refl) (tt, refl)
+    (settled-rests plan)).stands.mine
 
 pub replies-before-keys : RepliesBeforeKeys
 replies-before-keys plan turns =
-    let shows = turns (scene_at plan InstallingDe (lasting_birth plan)) (lasting-stands plan) (tt, refl)
+    let shows = turns (scene_at plan InstallingDe (lasting_birth plan))
+    (sound-in plan (lasting_birth plan) (lasting-stands plan)) (tt, refl)
     (installing-rests plan) in false≢true shows.may.2.1
 
 pub installs-other : InstallsOther
 installs-other plan key differ turns =
-    let given = (turns (scene_at plan InstallingDe (lasting_birth plan)) (lasting-stands plan) (tt, refl)
+    let given = (turns (scene_at plan InstallingDe (lasting_birth plan))
+    (sound-in plan (lasting_birth plan) (lasting-stands plan)) (tt, refl)
     (installing-rests plan)).stands.given in
     differ (given.given
     ∙ sym (ap (λ (known : Record). key_of plan.seed ForDe plan.user known.birth) (same_Some _ _ given.there)))

@@ -8,6 +8,7 @@ use Rattle.std.proofs.lemmas.List.Elements.{Contains-append_left, Contains-appen
 use Rattle.std.proofs.lemmas.Option.{none-some}
 use Rattle.tree_model.specs.declared.blobs.Blob.{Blob}
 use Rattle.tree_model.specs.declared.sites.LocalOp.{LocalOp}
+use Rattle.keystore_model.specs.declared.entry.StoreEntry.{StoreEntry}
 use Rattle.keystore_model.specs.declared.entry.Tag.{Tag}
 use Rattle.keystore_model.specs.Store.{entry_of}
 use Rattle.keystore_model.proofs.Stores.{entry-push_other}
@@ -25,7 +26,7 @@ use Rattle.task_turns.specs.declared.calls.Answer.{Answer}
 use Rattle.task_turns.specs.declared.calls.Answer.TheVariants.{Done, Blob as IsBlob, Sealed, Output}
 use Rattle.task_turns.specs.declared.calls.Call.TheVariants.{Op as OpCall, Sync as SyncCall}
 use Rattle.task_turns.specs.Shares.{Share, ShareFact, AllHas, LaterShare, IsHeld, AreHeld}
-use Rattle.task_turns.specs.Shares.{Own, KeyFor, SealedFor, Same, Given, HasKey}
+use Rattle.task_turns.specs.Shares.{Own, KeyFor, SealedFor, Same, Given, HasKey, LeftToTry, Opens}
 use Rattle.task_turns.specs.Turns.{seen_of, Rest, Tasks, Scene, Cost, no_cost, operated, synced, with_entry, Leads}
 use Rattle.task_turns.specs.Turns.{CallShows, GenerateShows, EncryptShows, WorkShows, TurnShows}
 use Rattle.task_turns.proofs.Lasting.{facts-last}
@@ -71,6 +72,8 @@ held-fact held more among (SealedFor blob app_id tag nonce key text) is = among 
 held-fact held more among (Same a b) is = tt
 held-fact held more among (Given key class user birth) is = tt
 held-fact held more among (HasKey class there) is = tt
+held-fact held more among (LeftToTry secret left) is = tt
+held-fact held more among (Opens secret key) is = tt
 
 held-more : (held more : List Blob) → ((blob : Blob) → Contains held blob → Contains more blob)
     → (facts : List ShareFact) → AreHeld held facts → AreHeld more facts
@@ -170,7 +173,14 @@ settled-goes_on progress is e = let same : Settled ≡ Stored = sym is ∙ e in 
 -- a sync and a further entry leave a share that is later
 later-synced : (held : List Blob) (share : Share) → LaterShare held share (synced share)
 later-synced held share =
-    record { own = inr refl; level = refl; seed = refl; keys = refl; kept = λ blob has entry live. live }
+    record {
+      own = inr refl;
+      level = refl;
+      seed = refl;
+      keys = refl;
+      kept = λ blob has entry live. live;
+      named = λ blob names entry live. live;
+    }
 
 later-entered : (held : List Blob) (share : Share) (blob : Blob) (tag : Tag) (app_id key : List ℕ)
     → entry_of share.vault.entries blob ≡ None → LaterShare held share (with_entry share blob tag app_id key)
@@ -179,9 +189,15 @@ later-entered held share blob tag app_id key none = record {
   level = refl;
   seed = refl;
   keys = refl;
-  kept = λ other has entry live. entry-push_other share.vault.entries _ other
-      (λ same. none-some entry (sym none ∙ subst (λ b. entry_of share.vault.entries b ≡ Some entry) same live)) ∙ live;
+  kept = λ other has. stays other;
+  named = λ other names. stays other;
 }
+  where
+    stays : (other : Blob) (entry : StoreEntry) → entry_of share.vault.entries other ≡ Some entry
+        → entry_of (with_entry share blob tag app_id key).vault.entries other ≡ Some entry
+    stays other entry live = entry-push_other share.vault.entries _ other
+        (λ same. none-some entry (sym none ∙ subst (λ b. entry_of share.vault.entries b ≡ Some entry) same live))
+        ∙ live
 
 -- what one turn leads to, by where the task rests before it and after it
 pub record LeadsTo (scene : Scene) (rest then : Rest) (note : Option LocalChange) (cost : Cost) (share : Share) :

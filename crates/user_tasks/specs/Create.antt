@@ -16,7 +16,7 @@ use Rattle.journal_model.specs.Users.{Record, new_secrets}
 use Rattle.user_world.specs.declared.changes.LocalChange.TheVariants.{Born}
 use Rattle.user_world.specs.Facts.{Knows, Logged, Durable}
 use Rattle.task_turns.specs.declared.calls.Answer.{Answer}
-use Rattle.task_turns.specs.declared.calls.Answer.TheVariants.{Done, Blob as IsBlob, Sealed, Output}
+use Rattle.task_turns.specs.declared.calls.Answer.TheVariants.{Done}
 use Rattle.task_turns.specs.Shares.{ShareFact, Own, Same, Given, HasKey}
 use Rattle.task_turns.specs.Turns.{Rest, Tasks}
 use Rattle.store_task.specs.declared.turns.StoreSpec.{StoreSpec}
@@ -191,9 +191,7 @@ with_de create de = record create { de = de; stage = after_de (progress_of de.st
 -- what was in the way is gone, or the first job was done
 abbrev pub after_clearing : Creating → Answer → Creating
 after_clearing create Done = create
-after_clearing create (IsBlob blob) = with_ce create (store_after create.ce (IsBlob blob))
-after_clearing create (Sealed sealed) = with_ce create (store_after create.ce (Sealed sealed))
-after_clearing create (Output output) = with_ce create (store_after create.ce (Output output))
+after_clearing create answer = with_ce create (store_after create.ce answer)
 
 abbrev pub after_at : Stage → Creating → Answer → Creating
 after_at Clearing create answer = after_clearing create answer
@@ -209,9 +207,7 @@ after create answer = after_at create.stage create answer
 
 abbrev pub hears_clearing : Task → Answer → Type 0
 hears_clearing ce Done = Unit {0}
-hears_clearing ce (IsBlob blob) = IsAnswer ce (IsBlob blob)
-hears_clearing ce (Sealed sealed) = IsAnswer ce (Sealed sealed)
-hears_clearing ce (Output output) = IsAnswer ce (Output output)
+hears_clearing ce answer = IsAnswer ce answer
 
 -- the answers that it may hear
 abbrev pub hears_at : Stage → Creating → Answer → Type 0

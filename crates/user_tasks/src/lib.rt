@@ -7,11 +7,13 @@ pub mod locks;
 pub mod made;
 pub mod stores;
 pub mod tasks;
+pub mod unlocks;
 pub mod wrong_plans;
 
 pub use creates::{Create, Stage};
 pub use locks::{Lock, LockStage};
 pub use tasks::{UserTask, first};
+pub use unlocks::Unlock;
 
 #[cfg(test)]
 mod tests;

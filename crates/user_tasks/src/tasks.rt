@@ -6,15 +6,17 @@ ghost use Rattle.user_tasks.specs.Tasks.{Begins, HasJobs, UserTurns, UserJobs, t
 
 use crate::creates::Create;
 use crate::locks::Lock;
+use crate::unlocks::Unlock;
 use journal_model::{Birth, Command};
 use std::alloc::Global;
 use task_turns::{Answer, Next};
-use tree_model::{Blob, NoMemory, Site};
+use tree_model::{Blob, NoMemory, Site, Slot};
 
 /// A user's command on its way: of every kind there is.
 #[derive(Drop)]
 pub enum UserTask {
     Create(Create),
+    Unlock(Unlock),
     Lock(Lock),
 }
 
@@ -25,6 +27,7 @@ impl UserTask {
     {
         match self {
             UserTask::Create(create) => create.user(),
+            UserTask::Unlock(unlock) => unlock.opening.user(),
             UserTask::Lock(lock) => lock.user,
         }
     }
@@ -38,6 +41,7 @@ impl UserTask {
     {
         match self {
             UserTask::Create(create) => create.next(alloc, in_the_way),
+            UserTask::Unlock(unlock) => unlock.next(alloc),
             UserTask::Lock(lock) => Ok(lock.next()),
         }
     }
@@ -49,6 +53,7 @@ impl UserTask {
     {
         match self {
             UserTask::Create(create) => create.heard(answer),
+            UserTask::Unlock(unlock) => unlock.heard(answer),
             UserTask::Lock(lock) => *lock = lock.heard(),
         }
     }
@@ -59,7 +64,7 @@ impl UserTask {
     {
         match self {
             UserTask::Create(create) => create.held(),
-            UserTask::Lock(_) => [None, None],
+            UserTask::Unlock(_) | UserTask::Lock(_) => [None, None],
         }
     }
 
@@ -69,28 +74,36 @@ impl UserTask {
     {
         Ok(match self {
             UserTask::Create(create) => UserTask::Create(create.duplicate(alloc)?),
+            UserTask::Unlock(unlock) => UserTask::Unlock(unlock.duplicate(alloc)?),
             UserTask::Lock(lock) => UserTask::Lock(*lock),
         })
     }
 }
 
-/// The task of a user's command that begins and isn't refused; None exactly where the command is not a user's.
+/// The task of a user's command that begins and isn't refused, with the slots that it has to try; None exactly where the
+/// command is not a user's.
 pub fn first(
     alloc: Global,
     command: &Command,
     number: u64,
     birth: Birth,
     boot_seed: &[u8; 32],
+    slots: Vec<Slot>,
 ) -> Result<Option<UserTask>, NoMemory>
     requires number { number < 65536 }
     ensures begins { IfOk result (λ found.
-        MatchOption found (IsNone (user_in command.now)) (Begins command.now birth boot_seed.now)) }
+        MatchOption found (IsNone (user_in command.now)) (Begins command.now birth boot_seed.now slots.items)) }
     ensures jobs { IfOk result (λ found. IfSome found (HasJobs number)) }
 {
     match command {
         Command::Create { user } => {
             let create = Create::first(alloc, *user, birth, number, boot_seed)?;
             Ok(Some(UserTask::Create(create)))
+        }
+        Command::Unlock { user, secret } => {
+            let secret = secret.duplicate(alloc)?;
+            let unlock = Unlock::first(*user, slots, secret, 65536 * number);
+            Ok(Some(UserTask::Unlock(unlock)))
         }
         Command::Lock { user } => Ok(Some(UserTask::Lock(Lock::first(*user)))),
         Command::Recover => Ok(None),

@@ -11,8 +11,27 @@ use tree_model::{Blob, Bytes, LocalOp, Site};
 fn begins_with_the_credential_key(rt: HostRuntime) -> Result<(), Fail> {
     let alloc = rt.alloc();
     let birth = Birth { boot: 1, index: 2 };
-    assert!(rt; matches!(first(alloc, &Command::Recover, 7, birth, &[3; 32])?, None));
-    match first(alloc, &Command::Create { user: 10 }, 7, birth, &[3; 32])? {
+    assert!(rt;
+        matches!(
+            first(
+                alloc,
+                &Command::Recover,
+                7,
+                birth,
+                &[3; 32],
+                Vec::new(alloc)
+            )?,
+            None
+        )
+    );
+    match first(
+        alloc,
+        &Command::Create { user: 10 },
+        7,
+        birth,
+        &[3; 32],
+        Vec::new(alloc),
+    )? {
         Some(create) => {
             assert_eq!(rt; create.user(), 10);
             let copied = create.duplicate(alloc)?;

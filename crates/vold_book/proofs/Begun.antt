@@ -1,7 +1,8 @@
 -- A turn that begins a command keeps a Book whole.
 use Rattle.std.proofs.Common.{◌≡◌, ◌≢◌, ℕ, ◌+◌, inl, inr, cond, List, [], ◌∷◌, ◌++◌, refl, sym, ap, ◌∙◌, subst}
 use Rattle.std.proofs.lemmas.Option.{same_Some}
-use Rattle.std.specs.Prelude.{Option, Some, None, is_some, IsNone, IsSomeAnd, IfSome, Contains, slice_get, unwrap_or}
+use Rattle.std.specs.Prelude.{Bool, true, false, not, Option, Some, None, is_some, IsNone, IsSomeAnd, IfSome, Contains}
+use Rattle.std.specs.Prelude.{slice_get, unwrap_or}
 use Rattle.std.specs.Cmp.{nat_cmp_total}
 use Rattle.std.specs.FinMap as map
 use Rattle.std.specs.FinMap.{nat_cmp-IsAntisymmetric}
@@ -10,10 +11,11 @@ use Rattle.tree_model.specs.declared.places.Place.TheVariants.{De}
 use Rattle.tree_model.specs.Disk.{view}
 use Rattle.tree_model.proofs.Maps.{decide_key, get-insert_same, get-insert_other, tied, apart}
 use Rattle.journal_model.specs.declared.commands.Actor.{Actor}
-use Rattle.journal_model.specs.declared.commands.Actor.TheVariants.{Boot, User}
+use Rattle.journal_model.specs.declared.commands.Actor.TheVariants.{Boot}
+use Rattle.journal_model.specs.declared.commands.Command.{Command}
+use Rattle.journal_model.specs.declared.commands.Command.TheVariants.{Unlock}
 use Rattle.journal_model.specs.declared.commands.Reply.{Reply}
-use Rattle.journal_model.specs.declared.commands.Reply.TheVariants.{Ready}
-use Rattle.journal_model.specs.declared.entries.Birth.{Birth}
+use Rattle.journal_model.specs.declared.commands.Reply.TheVariants.{NoUser, Ready}
 use Rattle.journal_model.specs.declared.entries.Entry.{Entry}
 use Rattle.journal_model.specs.declared.entries.Entry.TheVariants.{Began}
 use Rattle.journal_model.specs.declared.phase.Phase.{Phase}
@@ -32,7 +34,7 @@ use Rattle.docket.specs.Docket.{after_begin, begun_by as docket_begun}
 use Rattle.docket.proofs.Accounts.{accounted-begun, first-fresh}
 use Rattle.user_world.specs.OwnWorlds.{own_record}
 use Rattle.user_world.specs.Timelines.{own_of}
-use Rattle.user_tasks.specs.Tasks.{user_of, rest_of, accepted}
+use Rattle.user_tasks.specs.Tasks.{user_of, rest_of, accepted, AreToTry}
 use Rattle.task_turns.specs.Turns.{Rests}
 use Rattle.key_directory.proofs.Present.{there-record, there-user}
 use Rattle.vold_book.specs.declared.tasks.Running.{Running}
@@ -41,13 +43,15 @@ use Rattle.vold_book.specs.declared.tasks.Task.{Task}
 use Rattle.vold_book.specs.declared.tasks.Task.TheVariants.{User as Using, Recovery as Recovers, Refusal, Fault}
 use Rattle.vold_book.specs.State.{Docket, Plain, Ground, machine_of, timeline, ground_of, ground_at, vault_of}
 use Rattle.vold_book.specs.State.{share_of}
+use Rattle.vold_book.specs.Slots.{slots_for}
 use Rattle.vold_book.specs.Tasks.{TaskStands, RunsOn, HoldsOwn, held_in}
-use Rattle.vold_book.specs.Turns.{user_there, facts_in, AcceptedTask, FirstTask}
+use Rattle.vold_book.specs.Turns.{user_there, facts_in, Start, start_in, AcceptedTask, FirstTask}
 use Rattle.vold_book.specs.Whole.{WasGiven, Numbers, PhaseStands, AllRun, Whole}
+use Rattle.vold_book.proofs.CountedUsers.{crowds-agree}
+use Rattle.vold_book.proofs.SlotsToTry.{user-up, slots-to-try}
 use Rattle.vold_book.proofs.Moves.{Steady, whole-of, at_actors}
 use Rattle.vold_book.proofs.Plains.{Beginning, IsBeginning, begun_plain, begun_seen}
 use Rattle.vold_book.proofs.Numbers.{all_given-append}
-use Rattle.vold_book.proofs.UserTurns.{not_boot}
 use Rattle.tree_model.specs.declared.places.Class.TheVariants.{Ce}
 use Rattle.key_ring.specs.Ring.{has_owner}
 use Rattle.key_ring.proofs.Owners.{found}
@@ -78,33 +82,58 @@ module _ (book : Plain) (actor : Actor) (begins : Beginning) (whole : Whole book
   abbrev began : BeganCommand
   began = begun book.ledger.entries machine begins.command
 
-  -- the Book knows what decides the refusal
-  facts-agree : facts_in book.bench.places book begins.command ≡ facts_of machine begins.command
-  facts-agree = λ i. record {
-    present = there (user_in begins.command) refl i;
-    installed = is_unlocked (user_in begins.command) machine.ring;
-    ready = is_up (sym whole.agrees.phase i);
-  }
-    where
-      up-of : (user : ℕ) (phase : Phase) → TakesTurn phase actor → actor ≡ User user → PhaseStands phase book machine
-          → Knows book.bench.places (view book.bench.disk)
-      up-of user Up takes is stands = stands
-      up-of user Down takes is stands = absurd (not_boot user (sym takes ∙ is))
-      up-of user Halted takes is stands = absurd takes
+  -- a user's command begins where the machine is up
+  module _ (user : ℕ) (whose : user_in begins.command ≡ Some user) where
+    up : book.tracker.phase ≡ Up
+    up = user-up book.tracker.phase actor user takes (sym own ∙ of-user begins.command user whose)
 
-      there : (of : Option ℕ) → user_in begins.command ≡ of
-          → user_there book.bench.places of ≡ is_present of (fold_changes machine.log)
-      there None is = refl
-      there (Some user) is =
-          (up-of user book.tracker.phase takes (sym own ∙ of-user begins.command user is) whole.phase).there (De user)
-          ∙ there-user (vault_of book.seed book.bench.store) (timeline book.bench.disk machine) user whole.worlds
+    known : Knows book.bench.places (view book.bench.disk)
+    known = subst (λ phase. PhaseStands phase book machine) up whole.phase
 
+    -- the Book knows what decides the refusal
+    facts-agree : facts_in book.bench.places book begins.command ≡ facts_of machine begins.command
+    facts-agree = λ i. record {
+      present = there i;
+      crowded = crowds-agree book whole up i;
+      installed = is_unlocked (user_in begins.command) machine.ring;
+      ready = is_up (sym whole.agrees.phase i);
+    }
+      where
+        there : user_there book.bench.places (user_in begins.command)
+            ≡ is_present (user_in begins.command) (fold_changes machine.log)
+        there = subst (λ of. user_there book.bench.places of ≡ is_present of (fold_changes machine.log)) (sym whose)
+            (known.there (De user)
+            ∙ there-user (vault_of book.seed book.bench.store) (timeline book.bench.disk machine) user whole.worlds)
+
+  -- a recovery is refused by the phase alone
   verdict-is : refusal_of begins.command (facts_in book.bench.places book begins.command)
       ≡ verdict_of machine begins.command
-  verdict-is = ap (refusal_of begins.command) facts-agree
+  verdict-is = by (user_in begins.command) refl
+    where
+      by : (of : Option ℕ) → user_in begins.command ≡ of
+          → refusal_of begins.command (facts_in book.bench.places book begins.command)
+          ≡ verdict_of machine begins.command
+      by (Some user) is = ap (refusal_of begins.command) (facts-agree user is)
+      by None is =
+          subst (λ c. refusal_of c (facts_in book.bench.places book c) ≡ verdict_of machine c)
+          (sym (no-user begins.command is)) (λ i. due (is_up (sym whole.agrees.phase i)) Ready)
 
-  abbrev birth : Birth
-  birth = record { boot = book.tracker.boot; index = docket_begun book.docket actor }
+  -- what a command that isn't refused has to try
+  to-try : (command : Command) → actor_of command ≡ actor
+      → refusal_of command (facts_in book.bench.places book command) ≡ None
+      → (user : ℕ) → user_in command ≡ Some user
+      → AreToTry command (slots_for book.bench.places command) (share_of user (ground_of book))
+  to-try (Unlock owner secret) own accepted user is =
+      slots-to-try book actor (Unlock owner secret) whole takes own user is
+      (subst (λ of. user_there book.bench.places of ≡ true) is (there _ accepted))
+    where
+      there : (present : Bool) → due (not present) NoUser ≡ None → present ≡ true
+      there true none = refl
+      there false none = cc
+  to-try command own accepted user is = tt
+
+  abbrev start : Start
+  start = start_in book.bench.places book actor begins.command
 
   abbrev ground' : Ground
   ground' = ground_at book.seed (begun_seen begins.task book.bench) machine'
@@ -125,7 +154,7 @@ module _ (book : Plain) (actor : Actor) (begins : Beginning) (whole : Whole book
 
   accepted-stands : began.verdict ≡ None
       → refusal_of begins.command (facts_in book.bench.places book begins.command) ≡ None → (of : Option ℕ)
-      → user_in begins.command ≡ of → (task : Task) → AcceptedTask begins.command birth book.boot_seed of task
+      → user_in begins.command ≡ of → (task : Task) → AcceptedTask begins.command start of task
       → StandsFirst task
   accepted-stands none accepted_it (Some user) of task (first, is_first, shows) =
       let line = timeline book.bench.disk machine in
@@ -133,7 +162,8 @@ module _ (book : Plain) (actor : Actor) (begins : Beginning) (whole : Whole book
       let share = share_of (user_of first) (ground_of book) in
       let present : (facts_in book.bench.places book begins.command).present
       ≡ is_some (own_record (own_of (user_of first) line)) =
-      ap (λ f. f.present) facts-agree ∙ ap (λ o. is_present o (fold_changes machine.log)) shows.owned
+      ap (λ f. f.present) (facts-agree (user_of first) shows.owned)
+      ∙ ap (λ o. is_present o (fold_changes machine.log)) shows.owned
       ∙ sym (there-user vault line (user_of first) whole.worlds)
       ∙ sym (there-record vault line (user_of first) whole.worlds) in
       let installed : is_unlocked (user_in begins.command) machine.ring ≡ is_some (share.keys Ce) =
@@ -144,7 +174,7 @@ module _ (book : Plain) (actor : Actor) (begins : Beginning) (whole : Whole book
         stands = subst (λ b. Rests (rest_of first) b began share) (sym whole.agrees.boot)
             (subst (λ b. Rests (rest_of first) book.tracker.boot b share) (same_began none)
             (shows.rests (facts_in book.bench.places book begins.command) share present installed accepted_it
-            whole.seeded));
+            whole.seeded (to-try begins.command own accepted_it (user_of first) shows.owned)));
         empty = shows.held;
       })
   accepted-stands none accepted_it None of task first =
@@ -165,7 +195,7 @@ module _ (book : Plain) (actor : Actor) (begins : Beginning) (whole : Whole book
 
   first-stands : (verdict : Option Reply)
       → refusal_of begins.command (facts_in book.bench.places book begins.command) ≡ verdict
-      → FirstTask begins.command birth book.boot_seed verdict begins.task → StandsFirst begins.task
+      → FirstTask begins.command start verdict begins.task → StandsFirst begins.task
   first-stands (Some reply) verdict first =
       subst StandsFirst (sym first) (record {
         stands = (

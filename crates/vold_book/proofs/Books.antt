@@ -30,7 +30,9 @@ use Rattle.user_world.specs.declared.changes.LocalChange.{LocalChange}
 use Rattle.task_turns.specs.declared.calls.Call.{Call}
 use Rattle.user_tasks.specs.declared.tasks.UserTask.{UserTask}
 use Rattle.vold_book.specs.Tasks.{Plans, HearsMade, TaskAfter, lists_with}
-use Rattle.vold_book.specs.Turns.{FirstTask, facts_in, begun_bench, Begins, Making, Makes, after_reply}
+use Rattle.vold_book.proofs.SlotsToTry.{few-slots}
+use Rattle.vold_book.specs.Turns.{Start, start_in, FirstTask, facts_in, begun_bench, Begins, Making, Makes}
+use Rattle.vold_book.specs.Turns.{after_reply}
 use Rattle.vold_book.specs.Whole.{IsWhole, turns_left}
 use Rattle.vold_book.proofs.Begun.{whole-begun, none_of}
 use Rattle.vold_book.proofs.Called.{call-fits, call-hears, whole-called}
@@ -53,7 +55,8 @@ module _ {D E F : Type 0} (book : BookState (BenchState D E F)) (actor : Actor) 
       → IsSomeAnd (map.get book.docket.waiting actor) (λ queue. IsFirst queue first)
       → slice_get book.docket.commands first ≡ Some command
       → birth.boot ≡ book.tracker.boot → birth.index ≡ begun_by book.docket actor
-      → FirstTask command birth book.boot_seed (refusal_of command (facts_in book.bench.places book command)) task
+      → FirstTask command (record (start_in book.bench.places book actor command) { birth = birth })
+      (refusal_of command (facts_in book.bench.places book command)) task
       → bench ≡ begun_bench task book.bench → boot_seed ≡ book.boot_seed → ledger ≡ book.ledger
       → ledger' ≡ record ledger { entries = ledger.entries ++ Began first actor command ∷ [] }
       → Begins book
@@ -70,7 +73,7 @@ module _ {D E F : Type 0} (book : BookState (BenchState D E F)) (actor : Actor) 
         task = task;
         queued = takes.1 ∙ ap (λ n. Some (n ∷ takes.0)) number_is;
         given = given;
-        first = subst (λ b. FirstTask command b book.boot_seed
+        first = subst (λ b. FirstTask command (record (start_in book.bench.places book actor command) { birth = b })
             (refusal_of command (facts_in book.bench.places book command)) task) born first_task;
         state = λ i. record book {
           bench = is_bench i;
@@ -164,8 +167,8 @@ module _ {D E F : Type 0} (senses : Senses D E F) (book : BookState (BenchState 
       task = begins.task;
     }
 
-    abbrev birth : Birth
-    birth = record { boot = book.tracker.boot; index = begun_by book.docket actor }
+    abbrev start : Start
+    start = start_in plain.bench.places plain actor begins.command
 
     is_beginning : IsBeginning plain actor beginning
     is_beginning = record { queued = begins.queued; given = begins.given; first = begins.first }
@@ -183,13 +186,14 @@ module _ {D E F : Type 0} (senses : Senses D E F) (book : BookState (BenchState 
       seeded = whole.seeded;
       store = whole.store;
       level = whole.level;
+      current = whole.current;
       ring = ring-entered plain (Began begins.number actor begins.command) refl refl whole.ring;
-      clean = clean-begun plain actor beginning birth whole (none_of (map.get book.docket.running actor) idle)
+      clean = clean-begun plain actor beginning start whole (none_of (map.get book.docket.running actor) idle)
           begins.first;
-      small = small-begun plain whole.small actor beginning birth book.boot_seed
+      small = small-begun plain whole.small actor beginning start
           (refusal_of begins.command (facts_in book.bench.places book begins.command)) begins.queued begins.first;
       charged = λ device. begun-charged plain device (whole.charged device) actor beginning
-          (due-first device begins.command birth book.boot_seed
+          (due-first device begins.command start
           (refusal_of begins.command (facts_in book.bench.places book begins.command)) begins.task begins.first);
     }
 
@@ -198,12 +202,12 @@ module _ {D E F : Type 0} (senses : Senses D E F) (book : BookState (BenchState 
         subst (λ b. IsWhole senses b) (sym begins.state)
         (whole-begun plain actor beginning whole idle takes is_beginning own steady-begun)
 
-    pub begins-falls : turns_left (seen senses after) < turns_left plain
-    begins-falls =
+    pub begins-falls : TakesTurn book.tracker.phase actor → turns_left (seen senses after) < turns_left plain
+    begins-falls takes =
         subst (λ b. turns_left b < turns_left plain) (sym (ap (seen senses) begins.state))
-        (begun-falls plain whole actor beginning birth book.boot_seed
+        (begun-falls plain whole actor beginning start
         (refusal_of begins.command (facts_in book.bench.places book begins.command)) idle begins.queued own
-        begins.first)
+        (few-slots plain actor begins.command whole takes own) begins.first)
 
   module _ (actor : Actor) (it : Running) where
     module _ (now : Task) (reply : Reply) (plans : Plans plain actor it now (ReplyNext reply)) where
@@ -220,6 +224,7 @@ module _ {D E F : Type 0} (senses : Senses D E F) (book : BookState (BenchState 
             seeded = whole.seeded;
             store = whole.store;
             level = whole.level;
+            current = whole.current;
             ring = ring-entered plain (Replied it.number reply) refl refl whole.ring;
             clean = clean-replied plain actor it now began.command reply whole plans
                 (whole.numbers.given it.number began plans.on.at).given;

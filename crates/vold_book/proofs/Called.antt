@@ -1,15 +1,19 @@
 -- Any task's call, made or failed, keeps a Book whole: by its kind it leaves what it has to.
-use Rattle.std.proofs.Common.{◌≡◌, ℕ, ◌∷◌, [], ◌++◌, refl, sym, ap, ◌∙◌, subst}
-use Rattle.std.specs.Prelude.{Option, is_some, Ok}
+use Rattle.std.proofs.Common.{◌≡◌, inl, inr, ℕ, List, ◌∷◌, [], ◌++◌, refl, sym, ap, ◌∙◌, subst}
+use Rattle.std.proofs.lemmas.Option.{same_Some}
+use Rattle.std.specs.Prelude.{Option, Some, None, is_some, Ok}
+use Rattle.tree_model.specs.declared.blobs.Blob.{Blob}
 use Rattle.journal_model.specs.declared.commands.Actor.{Actor}
 use Rattle.user_world.specs.declared.changes.LocalChange.{LocalChange}
 use Rattle.task_turns.specs.declared.calls.Call.{Call}
 use Rattle.task_turns.specs.declared.calls.Call.TheVariants.{Op as OpCall, Sync, List as ListCall, Read}
-use Rattle.task_turns.specs.declared.calls.Call.TheVariants.{Generate, Encrypt, Entries, Add, Remove}
+use Rattle.task_turns.specs.declared.calls.Call.TheVariants.{Generate, Encrypt, Decrypt, Entries, Add, Remove}
 use Rattle.tree_model.specs.declared.sites.LocalOp.{LocalOp}
 use Rattle.task_turns.specs.declared.next.Next.TheVariants.{Call as CallNext}
-use Rattle.keystore_model.specs.Store.{IsStore}
-use Rattle.keystore_model.proofs.Stores.{after-generate}
+use Rattle.keystore_model.specs.declared.entry.StoreEntry.{StoreEntry}
+use Rattle.keystore_model.specs.declared.entry.Tag.{Tag}
+use Rattle.keystore_model.specs.Store.{Store, IsStore, entry_of, generated, new_entry}
+use Rattle.keystore_model.proofs.Stores.{after-generate, decide-bytes, entry-push, entry-push_other, not-given}
 use Rattle.bench.specs.declared.made.Made.{Made}
 use Rattle.bench.specs.declared.made.Made.TheVariants.{Heard, Failed}
 use Rattle.bench.specs.Bench.{Plain as Seen, Fits, IsMade, Does, IsFailed, IsFailedOp, AreCounted}
@@ -101,14 +105,36 @@ module _ (book : Plain) (actor : Actor) (it : Running) (whole : Whole book) (cal
   goes (Refusal reply) plans = cc
   goes (Fault device held) plans = cc
 
--- a call leaves a store, at the same level
+-- every entry of a store is at its level
+abbrev IsLevel : Store → Type 0
+IsLevel store =
+    (blob : Blob) (entry : StoreEntry) → entry_of store.entries blob ≡ Some entry → entry.level ≡ store.level
+
+-- a call leaves a store, at the same level, and its entries too
 record KeepsStore (before after : Seen) : Type 0 where
   whole : IsStore after.store
   level : after.store.level ≡ before.store.level
+  current : IsLevel before.store → IsLevel after.store
+
+-- an entry that is made is at the store's level
+generated-level : (store : Store) (blob : Blob) (tag : Tag) (app_id key : List ℕ)
+    → entry_of store.entries blob ≡ None → IsLevel store → IsLevel (generated store blob tag app_id key)
+generated-level store blob tag app_id key none current other entry live = elim (decide-bytes other blob) [
+  | inl same ↦
+      let made = new_entry store blob tag app_id key in
+      sym (ap (λ (e : StoreEntry). e.level) (same_Some made entry
+      (sym (entry-push store.entries made none)
+      ∙ ap (entry_of (store.entries ++ made ∷ [])) (sym same) ∙ live)))
+  | inr differ ↦ current other entry (sym (entry-push_other store.entries _ other differ) ∙ live)
+]
 
 module _ (before after : Seen) (whole : IsStore before.store) where
   same-store : after.store ≡ before.store → KeepsStore before after
-  same-store same = record { whole = subst IsStore (sym same) whole; level = ap (λ s. s.level) same }
+  same-store same = record {
+    whole = subst IsStore (sym same) whole;
+    level = ap (λ s. s.level) same;
+    current = subst IsLevel (sym same);
+  }
 
   failed-op_store : (user : ℕ) (op : LocalOp) → IsFailedOp before after user op → KeepsStore before after
   failed-op_store user op failed = same-store (failed-store before after user op failed)
@@ -117,13 +143,16 @@ module _ (before after : Seen) (whole : IsStore before.store) where
   done-store (OpCall user op names) answer does = same-store (ap (λ b. b.store) does.1)
   done-store Sync answer does = same-store (ap (λ b. b.store) does.1)
   done-store ListCall answer does = same-store (ap (λ b. b.store) does.2)
-  done-store (Read place) answer does = same-store (ap (λ b. b.store) does.1)
+  done-store (Read place) answer does = same-store (ap (λ b. b.store) does.3)
   done-store (Generate tag app_id) answer does = record {
     whole = subst IsStore (sym does.2.made)
         (after-generate before.store does.0 tag app_id does.2.key whole does.2.fresh).whole;
     level = ap (λ s. s.level) does.2.made;
+    current = λ current. subst IsLevel (sym does.2.made) (generated-level before.store does.0 tag app_id does.2.key
+        (not-given before.store does.0 whole does.2.fresh) current);
   }
   done-store (Encrypt blob app_id nonce key) answer does = same-store (ap (λ b. b.store) does.1)
+  done-store (Decrypt blob app_id text) answer does = same-store (ap (λ b. b.store) does.1)
   done-store Entries answer does = same-store (ap (λ b. b.store) does.1.2)
   done-store (Add user class key) answer does = same-store (ap (λ b. b.store) does.1)
   done-store (Remove user class) answer does = same-store (ap (λ b. b.store) does.1)
@@ -135,6 +164,7 @@ module _ (before after : Seen) (whole : IsStore before.store) where
   failed-call_store (Read place) failed = same-store (ap (λ b. b.store) failed)
   failed-call_store (Generate tag app_id) failed = same-store (ap (λ b. b.store) failed)
   failed-call_store (Encrypt blob app_id nonce key) failed = same-store (ap (λ b. b.store) failed)
+  failed-call_store (Decrypt blob app_id text) failed = same-store (ap (λ b. b.store) failed)
   failed-call_store Entries failed = same-store (ap (λ b. b.store) failed)
   failed-call_store (Add user class key) failed = same-store (ap (λ b. b.store) failed)
   failed-call_store (Remove user class) failed = same-store (ap (λ b. b.store) failed)
@@ -176,12 +206,13 @@ module _ (book : Plain) (actor : Actor) (it : Running) (making : Making) (whole 
           seeded = whole.seeded ∙ ap (boot_seed_of book.seed) (sym stays.boot);
           store = store.whole;
           level = store.level ∙ whole.level ∙ sym stays.level;
+          current = store.current whole.current;
           ring = subst (RingStands book.seed bench.keys)
               (sym (machine-with book.ledger.entries (after_of book it.number making made bench).entry))
               (ring-called book actor it making whole plans made bench is_made);
           clean = clean-called book actor it making bench whole plans made is_made after long;
           small = small-called book whole.small actor it plans.runs making made bench
-              (call-falls book actor it making plans made after bench is_made whole.store (hears-whole made long))
+              (call-falls book actor it making plans made after bench is_made whole (hears-whole made long))
               is_made whole.numbers.few;
           charged = λ device. called-charged book device (whole.charged device) actor it.number making made bench
               counted is_made (call-due book actor it making plans made after device);

@@ -8,10 +8,9 @@ use Rattle.tree_model.specs.Counted.{Rose}
 use Rattle.journal_model.specs.declared.commands.Actor.{Actor}
 use Rattle.journal_model.specs.declared.commands.Command.{Command}
 use Rattle.journal_model.specs.declared.commands.Reply.{Reply}
-use Rattle.journal_model.specs.declared.commands.Reply.TheVariants.{Done, Ended, UserExists, NoUser, NotInstalled}
-use Rattle.journal_model.specs.declared.commands.Reply.TheVariants.{Ready}
+use Rattle.journal_model.specs.declared.commands.Reply.TheVariants.{Done, Ended, WrongSecret, UserExists, TooManyUsers}
+use Rattle.journal_model.specs.declared.commands.Reply.TheVariants.{NoUser, NotInstalled, Ready}
 use Rattle.journal_model.specs.declared.commands.Reply.TheVariants.{TreeFault, StoreFault, RingFault}
-use Rattle.journal_model.specs.declared.entries.Birth.{Birth}
 use Rattle.journal_model.specs.declared.entries.Device.{Device}
 use Rattle.journal_model.specs.declared.entries.Device.TheVariants.{Tree as TreeDevice, Store as StoreDevice}
 use Rattle.journal_model.specs.declared.entries.Device.TheVariants.{Ring as RingDevice}
@@ -25,7 +24,7 @@ use Rattle.docket.proofs.Accounts.{sum-empty}
 use Rattle.user_world.specs.declared.changes.LocalChange.{LocalChange}
 use Rattle.task_turns.specs.declared.calls.Call.{Call}
 use Rattle.task_turns.specs.declared.calls.Call.TheVariants.{Op as OpCall, Sync, List as ListCall, Read}
-use Rattle.task_turns.specs.declared.calls.Call.TheVariants.{Generate, Encrypt, Entries, Add, Remove}
+use Rattle.task_turns.specs.declared.calls.Call.TheVariants.{Generate, Encrypt, Decrypt, Entries, Add, Remove}
 use Rattle.bench.specs.declared.made.Made.{Made}
 use Rattle.bench.specs.declared.made.Made.TheVariants.{Heard, Failed}
 use Rattle.bench.specs.Bench.{Plain as Seen, AreCounted, IsMade, device_of, told_of}
@@ -37,7 +36,7 @@ use Rattle.vold_book.specs.Parts.{with_entry}
 use Rattle.vold_book.specs.State.{Plain}
 use Rattle.vold_book.specs.Stops.{after_stop, after_restart}
 use Rattle.vold_book.specs.Tasks.{fault_of}
-use Rattle.vold_book.specs.Turns.{FirstTask, AcceptedTask, Making, IsNoted, IsFault}
+use Rattle.vold_book.specs.Turns.{Start, FirstTask, AcceptedTask, Making, IsNoted, IsFault}
 use Rattle.vold_book.specs.Turns.{after_call, with_command, new_book, opened_at}
 use Rattle.vold_book.specs.Whole.{charge_of, charge_in, due_in, due_of, same_device, faults_of, IsCharged}
 use Rattle.vold_book.proofs.Plains.{Beginning, begun_plain, begun_seen, work_of, replied_plain}
@@ -60,6 +59,7 @@ noted-entry (Heard answer) number ListCall change = tt
 noted-entry (Heard answer) number (Read place) change = tt
 noted-entry (Heard answer) number (Generate tag app_id) change = tt
 noted-entry (Heard answer) number (Encrypt blob app_id nonce key) change = tt
+noted-entry (Heard answer) number (Decrypt blob app_id text) change = tt
 noted-entry (Heard answer) number Entries change = tt
 noted-entry (Heard answer) number (Add user class key) change = inr (inr (user, class, inl refl))
 noted-entry (Heard answer) number (Remove user class) change = inr (inr (user, class, inr refl))
@@ -86,7 +86,9 @@ due-told : (device : Device) (reply : Reply) (task : Task) → (reply ≡ fault_
     → charge_of device reply ≤ due_in device task
 due-told TreeDevice Done task told = omega arith
 due-told TreeDevice (Ended count) task told = omega arith
+due-told TreeDevice WrongSecret task told = omega arith
 due-told TreeDevice UserExists task told = omega arith
+due-told TreeDevice TooManyUsers task told = omega arith
 due-told TreeDevice NoUser task told = omega arith
 due-told TreeDevice NotInstalled task told = omega arith
 due-told TreeDevice Ready task told = omega arith
@@ -95,7 +97,9 @@ due-told TreeDevice StoreFault task told = omega arith
 due-told TreeDevice RingFault task told = omega arith
 due-told StoreDevice Done task told = omega arith
 due-told StoreDevice (Ended count) task told = omega arith
+due-told StoreDevice WrongSecret task told = omega arith
 due-told StoreDevice UserExists task told = omega arith
+due-told StoreDevice TooManyUsers task told = omega arith
 due-told StoreDevice NoUser task told = omega arith
 due-told StoreDevice NotInstalled task told = omega arith
 due-told StoreDevice Ready task told = omega arith
@@ -104,7 +108,9 @@ due-told StoreDevice StoreFault task told = let e = due-fault StoreDevice task (
 due-told StoreDevice RingFault task told = omega arith
 due-told RingDevice Done task told = omega arith
 due-told RingDevice (Ended count) task told = omega arith
+due-told RingDevice WrongSecret task told = omega arith
 due-told RingDevice UserExists task told = omega arith
+due-told RingDevice TooManyUsers task told = omega arith
 due-told RingDevice NoUser task told = omega arith
 due-told RingDevice NotInstalled task told = omega arith
 due-told RingDevice Ready task told = omega arith
@@ -112,14 +118,14 @@ due-told RingDevice TreeFault task told = omega arith
 due-told RingDevice StoreFault task told = omega arith
 due-told RingDevice RingFault task told = let e = due-fault RingDevice task (told refl) in omega (arith, e)
 
-pub due-first : (device : Device) (command : Command) (birth : Birth) (seed : List ℕ) (verdict : Option Reply)
+pub due-first : (device : Device) (command : Command) (start : Start) (verdict : Option Reply)
     (task : Task)
-    → FirstTask command birth seed verdict task
+    → FirstTask command start verdict task
     → due_in device task ≡ 0
-due-first device command birth seed (Some reply) task first = ap (due_in device) first
-due-first device command birth seed None task first = by (user_in command) first
+due-first device command start (Some reply) task first = ap (due_in device) first
+due-first device command start None task first = by (user_in command) first
   where
-    by : (user : Option ℕ) → AcceptedTask command birth seed user task → due_in device task ≡ 0
+    by : (user : Option ℕ) → AcceptedTask command start user task → due_in device task ≡ 0
     by (Some user) accepted = ap (due_in device) accepted.1
     by None is = ap (due_in device) is
 

@@ -9,6 +9,7 @@ use Rattle.tree_model.specs.declared.sites.LocalOp.TheVariants.{MakeDir, Write, 
 use Rattle.tree_model.specs.declared.sites.LocalOp.TheVariants.{RenameDir, RemoveFile, RemoveDir}
 use Rattle.tree_model.specs.declared.sites.Site.{Site}
 use Rattle.tree_model.specs.declared.sites.Site.TheVariants.{De, Ce, Temp}
+use Rattle.tree_model.specs.Disk.{view}
 use Rattle.tree_model.specs.Parts.{Part}
 use Rattle.tree_model.specs.Tree.{if_there}
 use Rattle.journal_model.specs.declared.commands.Actor.{Actor}
@@ -24,11 +25,13 @@ use Rattle.blob_custody.specs.Operations.{IsQuiet}
 use Rattle.blob_custody.proofs.Renamings.{quiet-operation}
 use Rattle.key_directory.specs.Vaults.{sealed}
 use Rattle.user_world.specs.declared.changes.LocalChange.{LocalChange}
+use Rattle.user_world.specs.OwnWorlds.{own_view}
+use Rattle.user_world.proofs.Timelines.{view-shown}
 use Rattle.task_turns.specs.declared.calls.Answer.{Answer}
 use Rattle.task_turns.specs.declared.calls.Answer.TheVariants.{Sealed}
 use Rattle.task_turns.specs.declared.calls.Call.{Call}
 use Rattle.task_turns.specs.declared.calls.Call.TheVariants.{Op, Sync, List as ListCall, Read}
-use Rattle.task_turns.specs.declared.calls.Call.TheVariants.{Generate, Encrypt, Entries, Add, Remove}
+use Rattle.task_turns.specs.declared.calls.Call.TheVariants.{Generate, Encrypt, Decrypt, Entries, Add, Remove}
 use Rattle.task_turns.specs.declared.next.Next.{Next}
 use Rattle.task_turns.specs.declared.next.Next.TheVariants.{Call as CallNext}
 use Rattle.task_turns.specs.Names.{Brings}
@@ -49,6 +52,7 @@ use Rattle.vold_book.specs.Tasks.{held_in, TaskStands, TaskShows, scene_of, task
 use Rattle.vold_book.specs.Tasks.{Plans}
 use Rattle.vold_book.specs.Turns.{Making, after_call}
 use Rattle.vold_book.specs.Whole.{Whole, held_of, all_held, custody_of}
+use Rattle.vold_book.proofs.HeardCalls.{found-own}
 use Rattle.vold_book.proofs.HeldBlobs.{same-insert, clean-held, clean-ready}
 use Rattle.vold_book.proofs.NamesLive.{renames-gained}
 use Rattle.vold_book.proofs.Tracked.{noted-stays}
@@ -116,6 +120,7 @@ module _ (book : Plain) (whole : Whole book) (actor : Actor) (it then : Running)
   clean-failed bench (Read place) same brings failed = clean-rests bench same (ap sensed failed)
   clean-failed bench (Generate tag app_id) same brings failed = clean-rests bench same (ap sensed failed)
   clean-failed bench (Encrypt blob app_id nonce key) same brings failed = clean-rests bench same (ap sensed failed)
+  clean-failed bench (Decrypt blob app_id text) same brings failed = clean-rests bench same (ap sensed failed)
   clean-failed bench Entries same brings failed = clean-rests bench same (ap sensed failed)
   clean-failed bench (Add user class key) same brings failed = clean-rests bench same (ap sensed failed)
   clean-failed bench (Remove user class) same brings failed = clean-rests bench same (ap sensed failed)
@@ -144,7 +149,11 @@ module _ (book : Plain) (whole : Whole book) (actor : Actor) (it then : Running)
         clean-synced book whole actor it then runs bench
         (subst HeldAfter does.0 after ∙ stands.held ∙ held) (ap sensed does.1)
     user-done bench ListCall change answer stands does long after = absurd stands
-    user-done bench (Read place) change answer stands does long after = absurd stands
+    user-done bench (Read place) change answer stands does long after =
+        let shows = stands.each does.0
+        (found-own (own_view scene.share.own) (view book.bench.disk) (user_of task) place
+        (view-shown (user_of task) _ _ whole.worlds.shows) stands.mine ∙ does.1) in
+        clean-rests bench (subst HeldAfter does.2 after ∙ shows.held ∙ held) (ap sensed does.3)
     user-done bench (Generate tag app_id) change answer stands does long after =
         let fresh = not-given book.bench.store does.0 whole.store does.2.fresh in
         let shows = stands.each does.0 does.2.key (subst (λ a. AnswersWhole (Ok (Heard a))) does.1 long) fresh in
@@ -155,6 +164,8 @@ module _ (book : Plain) (whole : Whole book) (actor : Actor) (it then : Running)
         clean-rests bench (subst HeldAfter (does.0 ∙ ap Sealed (sealed-under (entry_of book.bench.store.entries blob)
         shows.under.entry nonce key shows.under.live)) after ∙ shows.held ∙ held)
         (ap sensed does.1)
+    user-done bench (Decrypt blob app_id text) change answer stands does long after =
+        clean-rests bench (subst HeldAfter does.0 after ∙ stands.held ∙ held) (ap sensed does.1)
     user-done bench Entries change answer stands does long after = absurd stands
     user-done bench (Add user class key) change answer stands does long after =
         clean-rests bench (subst HeldAfter does.0 after ∙ stands.held ∙ held) (ap sensed does.1)
@@ -175,9 +186,10 @@ module _ (book : Plain) (whole : Whole book) (actor : Actor) (it then : Running)
   recovery-done recovery none same down bench ListCall answer calls does =
       clean-rests bench same (ap sensed does.2)
   recovery-done recovery none same down bench (Read place) answer calls does =
-      clean-rests bench same (ap sensed does.1)
+      clean-rests bench same (ap sensed does.3)
   recovery-done recovery none same down bench (Generate tag app_id) answer calls does = absurd calls
   recovery-done recovery none same down bench (Encrypt blob app_id nonce key) answer calls does = absurd calls
+  recovery-done recovery none same down bench (Decrypt blob app_id text) answer calls does = absurd calls
   recovery-done recovery none same down bench (Add user class key) answer calls does = absurd calls
   recovery-done recovery none same down bench (Remove user class) answer calls does = absurd calls
   recovery-done recovery none same down bench Entries answer calls does =

@@ -10,13 +10,12 @@ use Rattle.journal_model.specs.declared.commands.Actor.{Actor}
 use Rattle.journal_model.specs.declared.commands.Command.{Command}
 use Rattle.journal_model.specs.declared.commands.Command.TheVariants.{Recover}
 use Rattle.journal_model.specs.declared.commands.Reply.{Reply}
-use Rattle.journal_model.specs.declared.entries.Birth.{Birth}
 use Rattle.journal_model.specs.declared.commands.Reply.TheVariants.{Ready, TreeFault, StoreFault, RingFault}
 use Rattle.journal_model.specs.declared.entries.Device.TheVariants.{Tree, Store, Ring}
 use Rattle.journal_model.specs.declared.phase.Phase.TheVariants.{Down}
 use Rattle.journal_model.specs.Command.{actor_of, user_in}
 use Rattle.journal_model.specs.Machine.{Running as Began, is_up, phase_after, kind_of_reply}
-use Rattle.journal_model.specs.Machine.{Success, Refusal as RefusalKind, Fault as FaultKind}
+use Rattle.journal_model.specs.Machine.{Outcome, Refusal as RefusalKind, Fault as FaultKind}
 use Rattle.journal_model.specs.declared.refusals.Facts.{Facts}
 use Rattle.journal_model.specs.Refusals.{refusal_of, due}
 use Rattle.journal_model.proofs.ByCommand.{phase-stays, user-stays, no-user}
@@ -41,7 +40,7 @@ use Rattle.vold_book.specs.State.{Plain, Ground, ground_of}
 use Rattle.vold_book.specs.Recovery.{RecoveryEnds}
 use Rattle.vold_book.specs.Stops.{after_stop, after_restart}
 use Rattle.vold_book.specs.Tasks.{held_in, lists_with, TaskStands, TaskShows, Worked, Plans}
-use Rattle.vold_book.specs.Turns.{FirstTask, AcceptedTask, facts_in, with_command, new_book, unlisted}
+use Rattle.vold_book.specs.Turns.{Start, FirstTask, AcceptedTask, facts_in, with_command, new_book, unlisted}
 use Rattle.vold_book.specs.Whole.{Whole, held_of, all_held, custody_of}
 use Rattle.vold_book.proofs.Plains.{begun_seen, Beginning, work_of, begun_plain, replied_plain}
 use Rattle.vold_book.proofs.HeldBlobs.{none-held, else-held, remove-from, lets-all, same-begun}
@@ -52,16 +51,16 @@ use Rattle.vold_book.proofs.Shown.{next_reply}
 use Rattle.vold_book.proofs.Worked.{stands-now, held-now}
 
 -- what begins holds nothing
-first-holds : (command : Command) (birth : Birth) (boot_seed : List ℕ) (of : Option ℕ) (task : Task)
-    → AcceptedTask command birth boot_seed of task → held_in task ≡ []
-first-holds command birth boot_seed None task first = ap held_in first
-first-holds command birth boot_seed (Some user) task first = ap held_in first.1 ∙ first.2.held
+first-holds : (command : Command) (start : Start) (of : Option ℕ) (task : Task)
+    → AcceptedTask command start of task → held_in task ≡ []
+first-holds command start None task first = ap held_in first
+first-holds command start (Some user) task first = ap held_in first.1 ∙ first.2.held
 
-begun-holds : (command : Command) (birth : Birth) (boot_seed : List ℕ) (refusal : Option Reply) (task : Task)
-    → FirstTask command birth boot_seed refusal task → held_in task ≡ []
-begun-holds command birth boot_seed (Some reply) task first = ap held_in first
-begun-holds command birth boot_seed None task first =
-    first-holds command birth boot_seed (user_in command) task first
+begun-holds : (command : Command) (start : Start) (refusal : Option Reply) (task : Task)
+    → FirstTask command start refusal task → held_in task ≡ []
+begun-holds command start (Some reply) task first = ap held_in first
+begun-holds command start None task first =
+    first-holds command start (user_in command) task first
 
 -- a test has one answer
 unlike : false ≡ true → ⊥
@@ -82,11 +81,11 @@ clean-emptied custody clean down = record {
 }
 
 -- a recovery begins on no machine that is up
-due-down : (facts : Facts) (command : Command) (birth : Birth) (boot_seed : List ℕ) (recovery : Recovery)
-    → FirstTask command birth boot_seed (refusal_of command facts) (Recovers recovery) → facts.ready ≡ false
-due-down facts command birth boot_seed recovery first = by (user_in command) refl
+due-down : (facts : Facts) (command : Command) (start : Start) (recovery : Recovery)
+    → FirstTask command start (refusal_of command facts) (Recovers recovery) → facts.ready ≡ false
+due-down facts command start recovery first = by (user_in command) refl
   where
-    accepted : (of : Option ℕ) → IsSome of → AcceptedTask command birth boot_seed of (Recovers recovery) → ⊥
+    accepted : (of : Option ℕ) → IsSome of → AcceptedTask command start of (Recovers recovery) → ⊥
     accepted None some first = cc
     accepted (Some user) some first = apart first.1
       where
@@ -94,36 +93,36 @@ due-down facts command birth boot_seed recovery first = by (user_in command) ref
         apart e = cc
 
     of-user : (verdict : Option Reply) → IsSome (user_in command)
-        → FirstTask command birth boot_seed verdict (Recovers recovery) → ⊥
+        → FirstTask command start verdict (Recovers recovery) → ⊥
     of-user (Some reply) some first = cc
     of-user None some first = accepted (user_in command) some first
 
-    recovers : (up : Bool) → FirstTask Recover birth boot_seed (due up Ready) (Recovers recovery) → up ≡ false
+    recovers : (up : Bool) → FirstTask Recover start (due up Ready) (Recovers recovery) → up ≡ false
     recovers true first = cc
     recovers false first = refl
 
     by : (of : Option ℕ) → user_in command ≡ of → facts.ready ≡ false
-    by None of = recovers facts.ready (subst (λ c. FirstTask c birth boot_seed (refusal_of c facts)
+    by None of = recovers facts.ready (subst (λ c. FirstTask c start (refusal_of c facts)
         (Recovers recovery)) (no-user command of) first)
     by (Some user) of = absurd (of-user (refusal_of command facts) (subst IsSome (sym of) refl) first)
 
 -- a command begins where its actor runs none
-module _ (book : Plain) (actor : Actor) (begins : Beginning) (birth : Birth) (whole : Whole book)
+module _ (book : Plain) (actor : Actor) (begins : Beginning) (start : Start) (whole : Whole book)
     (idle : map.get book.docket.running actor ≡ None)
-    (first : FirstTask begins.command birth book.boot_seed
+    (first : FirstTask begins.command start
     (refusal_of begins.command (facts_in book.bench.places book begins.command)) begins.task) where
   begun-same : IsClean (record (custody_of book) {
     held = all_held (map.insert book.docket.running actor (work_of begins));
   })
   begun-same = clean-held (custody_of book) (all_held (map.insert book.docket.running actor (work_of begins)))
       whole.clean (same-begun book.docket.running actor (work_of begins) idle
-      (begun-holds begins.command birth book.boot_seed
+      (begun-holds begins.command start
       (refusal_of begins.command (facts_in book.bench.places book begins.command)) begins.task first))
 
   pub clean-begun : IsClean (custody_of (begun_plain book actor begins))
   clean-begun = by begins.task first
     where
-      by : (task : Task) → FirstTask begins.command birth book.boot_seed
+      by : (task : Task) → FirstTask begins.command start
           (refusal_of begins.command (facts_in book.bench.places book begins.command)) task
           → IsClean (record (custody_of book) {
             disk = (begun_seen task book.bench).disk;
@@ -133,7 +132,7 @@ module _ (book : Plain) (actor : Actor) (begins : Beginning) (birth : Birth) (wh
           })
       by (Using task) first = begun-same
       by (Recovers recovery) first = clean-emptied _ begun-same
-          (due-down (facts_in book.bench.places book begins.command) begins.command birth book.boot_seed recovery
+          (due-down (facts_in book.bench.places book begins.command) begins.command start recovery
           first)
       by (Refusal reply) first = begun-same
       by (Fault device held) first = begun-same
@@ -155,10 +154,10 @@ lists-held ground began (Refusal refusal) reply shows = refl
 lists-held ground began (Fault device held) reply shows = refl
 
 -- a refusal and a fault tell of no success
-refused : RefusalKind ≡ Success → ⊥
+refused : RefusalKind ≡ Outcome → ⊥
 refused e = cc
 
-failed : FaultKind ≡ Success → ⊥
+failed : FaultKind ≡ Outcome → ⊥
 failed e = cc
 
 module _ (book : Plain) (actor : Actor) (it : Running) (now : Task) (command : Command) (reply : Reply)
@@ -220,7 +219,7 @@ module _ (book : Plain) (actor : Actor) (it : Running) (now : Task) (command : C
         → IsClean (record let_go { ready = is_up (phase_after book.tracker.phase command reply) })
     stays-ready stays = clean-ready let_go _ clean-let_go (λ up. sym (ap is_up stays) ∙ up)
 
-    fails-ready : kind_of_reply reply ≢ Success
+    fails-ready : kind_of_reply reply ≢ Outcome
         → IsClean (record let_go { ready = is_up (phase_after book.tracker.phase command reply) })
     fails-ready fails = stays-ready (phase-stays book.tracker.phase command reply fails)
 

@@ -1,6 +1,6 @@
 -- Each turn that goes leaves fewer turns.
-use Rattle.std.proofs.Common.{◌≡◌, ◌≢◌, inl, inr, ℕ, ◌+◌, ◌<◌, T, true, false, cond, List, [], ◌∷◌}
-use Rattle.std.proofs.Common.{refl, sym, ap, ◌∙◌, subst, arith}
+use Rattle.std.proofs.Common.{◌≡◌, ◌≢◌, inl, inr, ℕ, ◌+◌, ◌<◌, ◌≤◌, T, true, false, cond, List, [], ◌∷◌}
+use Rattle.std.proofs.Common.{length, refl, sym, ap, ◌∙◌, subst, arith}
 use Rattle.std.proofs.lemmas.Option.{none-some}
 use Rattle.std.specs.Prelude.{Option, Some, None, IsNone, Ok, map as map_list}
 use Rattle.std.specs.declared.cmp.Ordering.{Ordering}
@@ -20,7 +20,6 @@ use Rattle.journal_model.specs.declared.commands.Actor.{Actor}
 use Rattle.journal_model.specs.declared.commands.Actor.TheVariants.{Boot}
 use Rattle.journal_model.specs.declared.commands.Command.{Command}
 use Rattle.journal_model.specs.declared.commands.Reply.{Reply}
-use Rattle.journal_model.specs.declared.entries.Birth.{Birth}
 use Rattle.journal_model.specs.declared.phase.Phase.TheVariants.{Down}
 use Rattle.journal_model.specs.Actor.{actor_total, actor_exact}
 use Rattle.journal_model.specs.Command.{actor_of, user_in}
@@ -32,7 +31,7 @@ use Rattle.step_core.specs.Table.{NamedPlaces}
 use Rattle.task_turns.specs.declared.calls.Answer.{Answer}
 use Rattle.task_turns.specs.declared.calls.Call.{Call}
 use Rattle.task_turns.specs.declared.calls.Call.TheVariants.{Op as OpCall, Sync, List as ListCall, Read}
-use Rattle.task_turns.specs.declared.calls.Call.TheVariants.{Generate, Encrypt, Entries, Add, Remove}
+use Rattle.task_turns.specs.declared.calls.Call.TheVariants.{Generate, Encrypt, Decrypt, Entries, Add, Remove}
 use Rattle.bench.specs.declared.made.Made.{Made}
 use Rattle.bench.specs.declared.made.Made.TheVariants.{Heard, Failed}
 use Rattle.bench.specs.Bench.{Plain as Seen, Fits, Does, IsFailed, IsFailedOp, IsMade}
@@ -41,9 +40,10 @@ use Rattle.vold_book.specs.declared.recovery.Recovery.{Recovery}
 use Rattle.vold_book.specs.declared.tasks.Running.{Running}
 use Rattle.vold_book.specs.declared.tasks.Task.{Task}
 use Rattle.vold_book.specs.declared.tasks.Task.TheVariants.{User as Using, Recovery as Recovers, Refusal, Fault}
+use Rattle.vold_book.specs.Recovery.{max_places}
 use Rattle.vold_book.specs.State.{Plain, machine_of, ground_of}
 use Rattle.vold_book.specs.Tasks.{TaskStands, RunsOn}
-use Rattle.vold_book.specs.Turns.{FirstTask, AcceptedTask, Making, after_call}
+use Rattle.vold_book.specs.Turns.{Start, FirstTask, AcceptedTask, Making, after_call}
 use Rattle.vold_book.specs.Whole.{Whole, PhaseStands, most_turns, turns_of_task, turns_of, turns_left}
 use Rattle.vold_book.proofs.Plains.{Beginning, begun_plain, begun_seen, work_of, replied_plain}
 use Rattle.vold_book.proofs.Shown.{CallFalls, cost_made}
@@ -114,6 +114,7 @@ failed-len before after ListCall fits failed = ap (λ b. map.len (view b.disk)) 
 failed-len before after (Read place) fits failed = ap (λ b. map.len (view b.disk)) failed
 failed-len before after (Generate tag app_id) fits failed = ap (λ b. map.len (view b.disk)) failed
 failed-len before after (Encrypt blob app_id nonce key) fits failed = ap (λ b. map.len (view b.disk)) failed
+failed-len before after (Decrypt blob app_id text) fits failed = ap (λ b. map.len (view b.disk)) failed
 failed-len before after Entries fits failed = ap (λ b. map.len (view b.disk)) failed
 failed-len before after (Add user class key) fits failed = ap (λ b. map.len (view b.disk)) failed
 failed-len before after (Remove user class) fits failed = ap (λ b. map.len (view b.disk)) failed
@@ -127,9 +128,10 @@ done-len before after (OpCall user op names) answer fits does =
     omega (arith, l, e)
 done-len before after Sync answer fits does = ap (λ b. map.len (view b.disk) + 0) does.1
 done-len before after ListCall answer fits does = ap (λ b. map.len (view b.disk) + 0) does.2
-done-len before after (Read place) answer fits does = ap (λ b. map.len (view b.disk) + 0) does.1
+done-len before after (Read place) answer fits does = ap (λ b. map.len (view b.disk) + 0) does.3
 done-len before after (Generate tag app_id) answer fits does = ap (λ b. map.len (view b.disk) + 0) does.3
 done-len before after (Encrypt blob app_id nonce key) answer fits does = ap (λ b. map.len (view b.disk) + 0) does.1
+done-len before after (Decrypt blob app_id text) answer fits does = ap (λ b. map.len (view b.disk) + 0) does.1
 done-len before after Entries answer fits does = ap (λ b. map.len (view b.disk) + 0) does.1.2
 done-len before after (Add user class key) answer fits does = ap (λ b. map.len (view b.disk) + 0) does.1
 done-len before after (Remove user class) answer fits does = ap (λ b. map.len (view b.disk) + 0) does.1
@@ -143,14 +145,14 @@ made-len before after call (Failed device) fits is_made =
     let same = failed-len before after call fits is_made.1 in omega (arith, same)
 
 -- what begins has so many turns at most
-first-turns : (command : Command) (birth : Birth) (seed : List ℕ) (verdict : Option Reply) (task : Task)
-    → FirstTask command birth seed verdict task → (places : NamedPlaces)
+first-turns : (command : Command) (start : Start) (verdict : Option Reply) (task : Task)
+    → length start.slots ≤ max_places → FirstTask command start verdict task → (places : NamedPlaces)
     → turns_of_task places task < most_turns
-first-turns command birth seed (Some reply) task first places =
+first-turns command start (Some reply) task tried first places =
     let e = ap (turns_of_task places) first in omega (arith, e)
-first-turns command birth seed None task first places = by (user_in command) first
+first-turns command start None task tried first places = by (user_in command) first
   where
-    by : (user : Option ℕ) → AcceptedTask command birth seed user task → turns_of_task places task < most_turns
+    by : (user : Option ℕ) → AcceptedTask command start user task → turns_of_task places task < most_turns
     by (Some user) first = let e = ap (turns_of_task places) first.1 in let few = first.2.few in omega (arith, e, few)
     by None first = let e = ap (turns_of_task places) first in omega (arith, e)
 
@@ -178,9 +180,9 @@ module _ (book : Plain) (whole : Whole book) where
 
   module _ (actor : Actor) where
     -- fewer turns are left once a command began
-    module _ (begins : Beginning) (birth : Birth) (seed : List ℕ) (verdict : Option Reply) where
+    module _ (begins : Beginning) (start : Start) (verdict : Option Reply) where
       abbrev Starts : Task → Type 0
-      Starts task = FirstTask begins.command birth seed verdict task
+      Starts task = FirstTask begins.command start verdict task
 
       begun-len : (task : Task) → map.len (view (begun_seen task book.bench).disk) ≡ map.len (view book.bench.disk)
       begun-len (Using task) = refl
@@ -193,29 +195,29 @@ module _ (book : Plain) (whole : Whole book) where
       starts-recovery first is = by verdict first
         where
           accepted : (user : Option ℕ) → user_in begins.command ≡ user
-              → AcceptedTask begins.command birth seed user begins.task → actor_of begins.command ≡ Boot
+              → AcceptedTask begins.command start user begins.task → actor_of begins.command ≡ Boot
           accepted (Some user) of first = absurd (unlike first.0 (sym first.1 ∙ is))
             where
               unlike : (task : UserTask) → {recovery : Recovery} → Using task ≡ Recovers recovery → ⊥
               unlike task e = cc
           accepted None of first = ap actor_of (no-user begins.command of)
 
-          by : (verdict : Option Reply) → FirstTask begins.command birth seed verdict begins.task
+          by : (verdict : Option Reply) → FirstTask begins.command start verdict begins.task
               → actor_of begins.command ≡ Boot
           by (Some reply) first = cc
           by None first = accepted (user_in begins.command) refl first
 
       pub begun-falls : IsNone (map.get book.docket.running actor)
           → map.get book.docket.waiting actor ≡ Some (begins.number ∷ begins.numbers)
-          → actor_of begins.command ≡ actor → Starts begins.task
+          → actor_of begins.command ≡ actor → length start.slots ≤ max_places → Starts begins.task
           → turns_left (begun_plain book actor begins) < turns_left book
-      begun-falls idle queue own first =
+      begun-falls idle queue own tried first =
           let q = sum-left actor_total actor_exact book.docket.waiting actor begins.number begins.numbers queue in
           let s = sum-changed actor_total actor_exact (turns_of book.bench.places)
           (turns_of (begun_seen begins.task book.bench).places) book.docket.running actor (work_of begins)
           (λ other o differ at. kept begins.task refl other o differ at) in
           let w = no_worth (turns_of book.bench.places) (map.get book.docket.running actor) idle in
-          let few = first-turns begins.command birth seed verdict begins.task first
+          let few = first-turns begins.command start verdict begins.task tried first
           (begun_seen begins.task book.bench).places in
           let same = begun-len begins.task in
           omega (arith, q, s, w, few, same)

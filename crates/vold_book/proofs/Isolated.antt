@@ -23,7 +23,7 @@ use Rattle.user_world.specs.declared.changes.LocalChange.{LocalChange}
 use Rattle.task_turns.specs.declared.calls.Answer.{Answer}
 use Rattle.task_turns.specs.declared.calls.Call.{Call}
 use Rattle.task_turns.specs.declared.calls.Call.TheVariants.{Op as OpCall, Sync, List as ListCall, Read}
-use Rattle.task_turns.specs.declared.calls.Call.TheVariants.{Generate, Encrypt, Entries, Add, Remove}
+use Rattle.task_turns.specs.declared.calls.Call.TheVariants.{Generate, Encrypt, Decrypt, Entries, Add, Remove}
 use Rattle.task_turns.specs.declared.next.Next.TheVariants.{Call as CallNext}
 use Rattle.task_turns.specs.Turns.{seen_of, CallStands}
 use Rattle.bench.specs.declared.made.Made.{Made}
@@ -112,7 +112,7 @@ module _ (before after : Seen) (owner other : ℕ) (differ : other ≢ owner) wh
   spare-done ListCall answer own does =
       spare-same other before after (ap (λ b. b.disk) does.2) (ap (λ b. b.store) does.2) (ap (λ b. b.keys) does.2)
   spare-done (Read place) answer own does =
-      spare-same other before after (ap (λ b. b.disk) does.1) (ap (λ b. b.store) does.1) (ap (λ b. b.keys) does.1)
+      spare-same other before after (ap (λ b. b.disk) does.3) (ap (λ b. b.store) does.3) (ap (λ b. b.keys) does.3)
   spare-done (Generate tag app_id) answer own does = record {
     places = same-tree other _ _ (ap (λ b. view b.disk) does.3);
     entries = ap (λ s. entries_of other s.entries) does.2.made
@@ -121,6 +121,8 @@ module _ (before after : Seen) (owner other : ℕ) (differ : other ≢ owner) wh
     keys = ap (λ b. key_of b.keys other) does.3;
   }
   spare-done (Encrypt blob app_id nonce key) answer own does =
+      spare-same other before after (ap (λ b. b.disk) does.1) (ap (λ b. b.store) does.1) (ap (λ b. b.keys) does.1)
+  spare-done (Decrypt blob app_id text) answer own does =
       spare-same other before after (ap (λ b. b.disk) does.1) (ap (λ b. b.store) does.1) (ap (λ b. b.keys) does.1)
   spare-done Entries answer own does = spare-same other before after (ap (λ b. b.disk) does.1.2)
       (ap (λ b. b.store) does.1.2) (ap (λ b. b.keys) does.1.2)
@@ -145,6 +147,7 @@ module _ (before after : Seen) (owner other : ℕ) (differ : other ≢ owner) wh
   spare-undone (Read place) own failed = spare-rests other before after failed
   spare-undone (Generate tag app_id) own failed = spare-rests other before after failed
   spare-undone (Encrypt blob app_id nonce key) own failed = spare-rests other before after failed
+  spare-undone (Decrypt blob app_id text) own failed = spare-rests other before after failed
   spare-undone Entries own failed = spare-rests other before after failed
   spare-undone (Add at class key) own failed = spare-rests other before after failed
   spare-undone (Remove at class) own failed = spare-rests other before after failed
@@ -178,6 +181,7 @@ module _ (book : Plain) (actor : Actor) (owner other : ℕ) (mine : actor ≡ Us
           own ListCall stands = tt
           own (Read place) stands = tt
           own (Encrypt blob app_id nonce key) stands = tt
+          own (Decrypt blob app_id text) stands = tt
           own Entries stands = tt
           own (Add at class key) stands = stands.mine ∙ of-owner
           own (Remove at class) stands = stands.mine ∙ of-owner

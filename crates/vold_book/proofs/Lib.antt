@@ -3,6 +3,10 @@ pub mod StepsMade
 pub mod Numbers
 pub mod Moves
 pub mod Entered
+pub mod HeardCalls
+pub mod Counted
+pub mod SlotsToTry
+pub mod CountedUsers
 pub mod Plains
 pub mod HeldBlobs
 pub mod NamesLive

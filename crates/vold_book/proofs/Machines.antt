@@ -3,6 +3,7 @@
 use Rattle.std.proofs.Common.{◌≡◌, ◌≢◌, ℕ, ◌+◌, ◌-◌, ◌^◌, ◌<◌, ◌≤◌, [], ◌∷◌, ◌++◌, length, take, min}
 use Rattle.std.proofs.Common.{refl, sym, ap, ◌∙◌, subst, arith}
 use Rattle.std.specs.Prelude.{Result, Ok, Err, OnOk, OnErr}
+use Rattle.std.proofs.lemmas.Option.{none-some}
 use Rattle.std.specs.FinMap as map
 use Rattle.tree_model.specs.declared.memory.NoMemory.{NoMemory}
 use Rattle.tree_model.specs.declared.ops.Cut.{Cut}
@@ -70,6 +71,7 @@ module _ {D E F : Type 0} (senses : Senses D E F) (tree : D) (store : E) (ring :
         seeded = refl;
         store = store-empty 1;
         level = refl;
+        current = λ blob entry live. absurd (none-some entry live);
         ring = ring-empty book.seed first_machine refl;
         clean = clean-opened bench (opened_at tree_counts store_counts ring_counts) book.seed refl refl;
         small = small-opened bench (opened_at tree_counts store_counts ring_counts) book.seed 1 refl refl refl;
@@ -172,6 +174,7 @@ module _ {D E F : Type 0} (senses : Senses D E F) (book : BookState (BenchState 
         seeded = whole.seeded;
         store = whole.store;
         level = whole.level;
+        current = whole.current;
         ring = whole.ring;
         clean = clean-given plain command whole;
         small = small-given plain whole.small command;
@@ -244,6 +247,7 @@ module _ {D E F : Type 0} (senses : Senses D E F) (book : BookState (BenchState 
           seeded = whole.seeded;
           store = whole.store;
           level = whole.level;
+          current = whole.current;
           ring = ring-emptied plain (Stopped kept) refl;
           clean = clean-stopped plain left cut kept refl;
           small = small-stopped plain whole.small left cut kept refl refl refl;
@@ -303,6 +307,7 @@ module _ {D E F : Type 0} (senses : Senses D E F) (book : BookState (BenchState 
           seeded = refl;
           store = whole.store;
           level = whole.level ∙ sym same_level;
+          current = whole.current;
           ring = ring-entered plain (Restarted (book.tracker.boot + 1) level) refl refl whole.ring;
           clean = clean-restarted plain plain.bench level whole refl;
           small = small-restarted plain whole.small plain.bench level refl;

@@ -23,6 +23,7 @@ use Rattle.keystore_model.specs.Store.{IsStore}
 use Rattle.blob_custody.specs.Custody.{IsClean}
 use Rattle.user_world.specs.Timelines.{OwnWorldsStand}
 use Rattle.user_world.proofs.Timelines.{line-images}
+use Rattle.key_directory.specs.Opened.{AreCurrent}
 use Rattle.key_directory.specs.Vaults.{sealed, KeepsEntry}
 use Rattle.tree_model.specs.declared.blobs.Blob.{Blob}
 use Rattle.bench.specs.declared.made.Made.{Made}
@@ -55,6 +56,7 @@ pub record Steady (book : Plain) : Type 0 where
   pub seeded : book.boot_seed ≡ boot_seed_of book.seed book.tracker.boot
   pub store : IsStore book.bench.store
   pub level : book.bench.store.level ≡ book.tracker.level
+  pub current : AreCurrent (vault_of book.seed book.bench.store)
   pub ring : RingStands book.seed book.bench.keys (machine_of book)
   pub clean : IsClean (custody_of book)
   pub small : IsSmall book
@@ -70,6 +72,7 @@ whole-of book machine is legal steady core =
       seeded = steady.seeded;
       store = steady.store;
       level = steady.level;
+      current = steady.current;
       images = line-images (sealed (vault_of book.seed book.bench.store))
           (timeline book.bench.disk (machine_of book)) here.worlds;
       worlds = here.worlds;

@@ -6,7 +6,7 @@ use Rattle.journal_model.specs.declared.commands.Command.{Command}
 use Rattle.journal_model.specs.declared.commands.Reply.{Reply}
 use Rattle.journal_model.specs.declared.entries.Entry.TheVariants.{Began, Replied}
 use Rattle.journal_model.specs.Machine.{phase_after}
-use Rattle.docket.specs.Docket.{after_begin as docket_begun, begun_by}
+use Rattle.docket.specs.Docket.{after_begin as docket_begun}
 use Rattle.journal_model.specs.Refusals.{refusal_of}
 use Rattle.std.specs.Prelude.{◌≡◌, Some, slice_get}
 use Rattle.bench.specs.Bench.{Plain as Seen, listed}
@@ -14,7 +14,7 @@ use Rattle.vold_book.specs.declared.tasks.Running.{Running}
 use Rattle.vold_book.specs.declared.tasks.Task.{Task}
 use Rattle.vold_book.specs.State.{Plain}
 use Rattle.vold_book.specs.Tasks.{lists_with}
-use Rattle.vold_book.specs.Turns.{begun_places, begun_list, FirstTask, facts_in}
+use Rattle.vold_book.specs.Turns.{begun_places, begun_list, FirstTask, start_in, facts_in}
 
 -- a recovery knows nothing of the tree as it begins, and nothing is listed then
 abbrev pub begun_seen : Task → Seen → Seen
@@ -32,8 +32,8 @@ pub record Beginning : Type 0 where
 pub record IsBeginning (book : Plain) (actor : Actor) (begins : Beginning) : Type 0 where
   pub queued : map.get book.docket.waiting actor ≡ Some (begins.number ∷ begins.numbers)
   pub given : slice_get book.docket.commands begins.number ≡ Some begins.command
-  pub first : FirstTask begins.command (record { boot = book.tracker.boot; index = begun_by book.docket actor })
-      book.boot_seed (refusal_of begins.command (facts_in book.bench.places book begins.command)) begins.task
+  pub first : FirstTask begins.command (start_in book.bench.places book actor begins.command)
+      (refusal_of begins.command (facts_in book.bench.places book begins.command)) begins.task
 
 abbrev pub work_of : Beginning → Running
 work_of begins = record { number = begins.number; task = begins.task }

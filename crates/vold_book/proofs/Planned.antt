@@ -33,6 +33,7 @@ use Rattle.vold_book.specs.Sweeping.{IsNextSite}
 use Rattle.vold_book.specs.Tasks.{TaskStands, RunsOn, Plans, scene_of}
 use Rattle.vold_book.specs.Whole.{PhaseStands, Whole}
 use Rattle.vold_book.proofs.RecoveryPlans.{none-there}
+use Rattle.vold_book.proofs.SlotsToTry.{sound-share}
 use Rattle.vold_book.proofs.UserTurns.{known}
 use Rattle.vold_book.proofs.Worked.{heard-stands}
 
@@ -77,13 +78,13 @@ module _ (book : Plain) (whole : Whole book) (actor : Actor) (number : ℕ) (tas
     on = on;
     job = None;
     worked = refl;
-    shows = turns (scene_of (user_of task) (ground_of book) on.began) (whole.worlds.images (user_of task))
+    shows = turns (scene_of (user_of task) (ground_of book) on.began) (sound-share book whole (user_of task))
         (clear (user_of task) site first) on.stands;
   }
   planned-by site plan (Some now) first plans =
       let scene = scene_of (user_of task) (ground_of book) on.began in
       let shows : WorkShows (seen_of tasks task) scene plans.job =
-      plans.asks scene (whole.worlds.images (user_of task)) (clear (user_of task) site first) on.stands in
+      plans.asks scene (sound-share book whole (user_of task)) (clear (user_of task) site first) on.stands in
       let heard = (heard-stands (ground_of book) actor on.began task plans.job on.stands shows).stands in
       let rests : TaskStands (ground_of book) (Using now) on.began =
       subst (λ t. TaskStands (ground_of book) (Using t) on.began) (sym plans.heard) heard in
@@ -92,7 +93,7 @@ module _ (book : Plain) (whole : Whole book) (actor : Actor) (number : ℕ) (tas
         on = on;
         job = Some plans.job;
         worked = (ap Using plans.heard, shows);
-        shows = plans.turns (scene_of (user_of now) (ground_of book) on.began) (whole.worlds.images (user_of now))
+        shows = plans.turns (scene_of (user_of now) (ground_of book) on.began) (sound-share book whole (user_of now))
             (clear (user_of now) site (subst (λ u. IsNextSite book.bench.places u site) (sym same) first)) rests;
       }
 

@@ -25,7 +25,7 @@ use Rattle.task_turns.specs.declared.calls.Answer.{Answer}
 use Rattle.task_turns.specs.declared.calls.Answer.TheVariants.{Done}
 use Rattle.task_turns.specs.declared.calls.Call.{Call}
 use Rattle.task_turns.specs.declared.calls.Call.TheVariants.{Op as OpCall, Sync, List as ListCall, Read}
-use Rattle.task_turns.specs.declared.calls.Call.TheVariants.{Generate, Encrypt, Entries, Add, Remove}
+use Rattle.task_turns.specs.declared.calls.Call.TheVariants.{Generate, Encrypt, Decrypt, Entries, Add, Remove}
 use Rattle.task_turns.specs.declared.next.Next.TheVariants.{Call as CallNext}
 use Rattle.bench.specs.declared.made.Made.{Made}
 use Rattle.bench.specs.declared.made.Made.TheVariants.{Heard, Failed}
@@ -65,6 +65,7 @@ failed-store before after ListCall failed = ap (λ b. b.store) failed
 failed-store before after (Read place) failed = ap (λ b. b.store) failed
 failed-store before after (Generate tag app_id) failed = ap (λ b. b.store) failed
 failed-store before after (Encrypt blob app_id nonce key) failed = ap (λ b. b.store) failed
+failed-store before after (Decrypt blob app_id text) failed = ap (λ b. b.store) failed
 failed-store before after Entries failed = ap (λ b. b.store) failed
 failed-store before after (Add user class key) failed = ap (λ b. b.store) failed
 failed-store before after (Remove user class) failed = ap (λ b. b.store) failed
@@ -125,6 +126,7 @@ module _ (book : Plain) (actor : Actor) (number : ℕ) (recovery : Recovery) (wh
   fits (Read place) calls few = calls.0
   fits (Generate tag app_id) calls few = absurd calls
   fits (Encrypt blob app_id nonce key) calls few = absurd calls
+  fits (Decrypt blob app_id text) calls few = absurd calls
   fits (Add user class key) calls few = absurd calls
   fits (Remove user class) calls few = absurd calls
   fits Entries calls few = few
@@ -138,6 +140,7 @@ module _ (book : Plain) (actor : Actor) (number : ℕ) (recovery : Recovery) (wh
   told (Read place) calls = tt
   told (Generate tag app_id) calls = tt
   told (Encrypt blob app_id nonce key) calls = tt
+  told (Decrypt blob app_id text) calls = tt
   told Entries calls = tt
   told (Add user class key) calls = tt
   told (Remove user class) calls = tt
@@ -246,7 +249,7 @@ module _ (book : Plain) (actor : Actor) (number : ℕ) (recovery : Recovery) (wh
         phase = refl;
       }))
   made-call (Read place) answer bench calls does =
-      subst (λ b. Done_by (Read place) answer b) (sym does.1) (still-moves _ _ _ (record {
+      subst (λ b. Done_by (Read place) answer b) (sym does.3) (still-moves _ _ _ (record {
         store = refl;
         agrees = whole.agrees;
         worlds = whole.worlds;
@@ -256,6 +259,7 @@ module _ (book : Plain) (actor : Actor) (number : ℕ) (recovery : Recovery) (wh
       }))
   made-call (Generate tag app_id) answer bench calls does = absurd calls
   made-call (Encrypt blob app_id nonce key) answer bench calls does = absurd calls
+  made-call (Decrypt blob app_id text) answer bench calls does = absurd calls
   made-call (Add user class key) answer bench calls does = absurd calls
   made-call (Remove user class) answer bench calls does = absurd calls
   made-call Entries answer bench calls does =
@@ -282,6 +286,7 @@ module _ (book : Plain) (actor : Actor) (number : ℕ) (recovery : Recovery) (wh
   failed-worlds (Read place) bench calls failed = unmoved bench (ap (λ b. b.disk) failed)
   failed-worlds (Generate tag app_id) bench calls failed = absurd calls
   failed-worlds (Encrypt blob app_id nonce key) bench calls failed = absurd calls
+  failed-worlds (Decrypt blob app_id text) bench calls failed = absurd calls
   failed-worlds (Add user class key) bench calls failed = absurd calls
   failed-worlds (Remove user class) bench calls failed = absurd calls
   failed-worlds Entries bench calls failed = unmoved bench (ap (λ b. b.disk) failed)

@@ -19,17 +19,15 @@ use Rattle.journal_model.specs.declared.phase.Phase.TheVariants.{Up, Down, Halte
 use Rattle.journal_model.specs.Actor.{actor_cmp, actor_total, actor_exact}
 use Rattle.journal_model.specs.Command.{actor_of}
 use Rattle.journal_model.specs.Machine.{Machine, Running as BeganCommand, after_entry, if_running, phase_after}
-use Rattle.journal_model.specs.Machine.{IsDurable, kind_of_reply, Success, Refusal as RefusalKind}
-use Rattle.journal_model.specs.Machine.{AllowsSuccess, MayEnd, Succeeds, AllowsReply, HasKey}
-use Rattle.journal_model.proofs.ByCommand.{phase-stays, success-more, user-stays}
+use Rattle.journal_model.specs.Machine.{IsDurable, kind_of_reply, Outcome, Refusal as RefusalKind}
+use Rattle.journal_model.specs.Machine.{DidRecover, MayEnd, ComesTo, AllowsReply, evidence_of}
+use Rattle.journal_model.proofs.ByCommand.{phase-stays, outcome-more, user-stays}
 use Rattle.journal_model.proofs.Steps.{machine_after-append, legal-append}
 use Rattle.task_turns.specs.declared.next.Next.TheVariants.{Reply as ReplyNext}
 use Rattle.user_world.specs.Changes.{local_of}
-use Rattle.user_world.specs.Timelines.{own_of}
-use Rattle.user_world.specs.Turns.{IsLogged, AreDurable}
-use Rattle.user_world.proofs.Timelines.{logged-shown, durable-shown}
+use Rattle.user_world.proofs.Timelines.{logged-shown, durable-shown, known-shown}
 use Rattle.user_world.proofs.Worlds.{owned-change}
-use Rattle.task_turns.specs.Turns.{KeyIsIn}
+use Rattle.task_turns.specs.Turns.{evidence_in}
 use Rattle.user_tasks.specs.Tasks.{user_of}
 use Rattle.vold_book.specs.declared.tasks.Running.{Running}
 use Rattle.vold_book.specs.declared.tasks.Task.{Task}
@@ -75,10 +73,10 @@ module _ (book : Plain) (actor : Actor) (it : Running) (now : Task) (reply : Rep
     may : AllowsReply machine began began.verdict reply
     goes : PhaseGoes (phase_after machine.phase began.command reply)
 
-  stays : kind_of_reply reply ≢ Success → PhaseGoes (phase_after machine.phase began.command reply)
+  stays : kind_of_reply reply ≢ Outcome → PhaseGoes (phase_after machine.phase began.command reply)
   stays differ = inl (phase-stays machine.phase began.command reply differ)
 
-  none-allows : began.verdict ≡ None → MayEnd (kind_of_reply reply) (Succeeds machine began reply)
+  none-allows : began.verdict ≡ None → MayEnd (kind_of_reply reply) (ComesTo machine began reply)
       → AllowsReply machine began began.verdict reply
   none-allows none may = subst (λ verdict. AllowsReply machine began verdict reply) (sym none) may
 
@@ -98,7 +96,7 @@ module _ (book : Plain) (actor : Actor) (it : Running) (now : Task) (reply : Rep
 
   -- the machine knows whether a key is in the ring
   key-shown : (user : ℕ) (class : Class) (there : Bool) → is_some (key_of book.bench.keys user class) ≡ there
-      → HasKey machine user class there
+      → (evidence_of machine).has_key user class there
   key-shown user class there has =
       ap (λ all. has_owner all user class) whole.ring.owned ∙ found book.bench.keys user class ∙ has
 
@@ -113,26 +111,25 @@ module _ (book : Plain) (actor : Actor) (it : Running) (now : Task) (reply : Rep
           let line = timeline book.bench.disk machine in record {
             may =
                 none-allows stands.accepted
-                (subst (λ kind. MayEnd kind (Succeeds machine began reply)) (sym shows.success)
-                (success-more (IsLogged user (own_of user line)) _ (AreDurable user (own_of user line))
-                (IsDurable machine) (KeyIsIn user (share_of user (ground_of book))) (HasKey machine)
+                (subst (λ kind. MayEnd kind (ComesTo machine began reply)) (sym shows.outcome)
+                (outcome-more (evidence_in user (share_of user (ground_of book))) (evidence_of machine)
                 (λ change logged. subst (Contains machine.log) (owned-change change user logged.0)
                 (logged-shown user _ line whole.worlds.shows (local_of change) logged.1))
                 (λ of durable. subst (IsDurable machine) (sym durable.0)
                 (durable-shown user _ line whole.worlds.shows durable.1))
-                (λ owner class there has. subst (λ o. HasKey machine o class there) (sym has.0)
+                (λ owner class there has. subst (λ o. (evidence_of machine).has_key o class there) (sym has.0)
                 (key-shown user class there has.1))
-                machine.boot began began.command reply shows.may));
+                (λ owner known is. subst (λ o. (evidence_of machine).recorded o known) (sym is.0)
+                (sym (known-shown user _ line whole.worlds.shows) ∙ is.1))
+                machine.boot began reply shows.may));
             goes = inl (user-stays machine.phase user began.command reply stands.of_user);
           }
       by (Recovers recovery) same stands shows =
           let durable = durable-down stands.1.0 in record {
             may =
                 none-allows stands.0.verdict
-                (subst (λ r. MayEnd (kind_of_reply r) (Succeeds machine began r)) (sym shows.ended)
-                (subst (λ c. AllowsSuccess (Contains machine.log) (IsDurable machine) (HasKey machine) machine.boot
-                began c (Ended 0))
-                (sym stands.0.command) (refl, durable)));
+                (subst (λ r. MayEnd (kind_of_reply r) (ComesTo machine began r)) (sym shows.ended)
+                (subst (DidRecover (evidence_of machine) 0) (sym stands.0.command) (refl, durable)));
             goes = inr (record {
               up = ap (λ r. phase_after machine.phase began.command r) shows.ended
                   ∙ ap (λ c. phase_after machine.phase c (Ended 0)) stands.0.command;
@@ -146,29 +143,29 @@ module _ (book : Plain) (actor : Actor) (it : Running) (now : Task) (reply : Rep
       by (Refusal refusal) same stands shows = record {
         may = subst (λ verdict. AllowsReply machine began verdict reply) (sym stands.0)
             (next_reply reply refusal shows);
-        goes = stays (λ success. refusal_success
+        goes = stays (λ success. refusal_outcome
             (sym stands.1 ∙ ap kind_of_reply (sym (next_reply reply refusal shows)) ∙ success));
       }
         where
-          refusal_success : RefusalKind ≡ Success → ⊥
-          refusal_success e = cc
+          refusal_outcome : RefusalKind ≡ Outcome → ⊥
+          refusal_outcome e = cc
       by (Fault device held) same stands shows =
           let told = next_reply reply (fault_of device) shows in record {
-            may = none-allows stands (subst (λ r. MayEnd (kind_of_reply r) (Succeeds machine began r)) (sym told)
+            may = none-allows stands (subst (λ r. MayEnd (kind_of_reply r) (ComesTo machine began r)) (sym told)
                 (may-fault device));
-            goes = stays (λ success. fault_success device (ap kind_of_reply (sym told) ∙ success));
+            goes = stays (λ success. fault_outcome device (ap kind_of_reply (sym told) ∙ success));
           }
         where
           may-fault : (device : Device) → MayEnd (kind_of_reply (fault_of device))
-              (Succeeds machine began (fault_of device))
+              (ComesTo machine began (fault_of device))
           may-fault Tree = tt
           may-fault Store = tt
           may-fault Ring = tt
 
-          fault_success : (device : Device) → kind_of_reply (fault_of device) ≡ Success → ⊥
-          fault_success Tree e = cc
-          fault_success Store e = cc
-          fault_success Ring e = cc
+          fault_outcome : (device : Device) → kind_of_reply (fault_of device) ≡ Outcome → ⊥
+          fault_outcome Tree e = cc
+          fault_outcome Store e = cc
+          fault_outcome Ring e = cc
 
   abbrev machine' : Machine
   machine' = after_entry book.ledger.entries machine (Replied it.number reply)

@@ -41,7 +41,7 @@ use Rattle.key_directory.proofs.Present.{there-user}
 use Rattle.task_turns.specs.declared.calls.Answer.{Answer}
 use Rattle.task_turns.specs.declared.calls.Call.{Call}
 use Rattle.task_turns.specs.declared.calls.Call.TheVariants.{Op, Sync, List as ListCall, Read}
-use Rattle.task_turns.specs.declared.calls.Call.TheVariants.{Generate, Encrypt, Entries, Add, Remove}
+use Rattle.task_turns.specs.declared.calls.Call.TheVariants.{Generate, Encrypt, Decrypt, Entries, Add, Remove}
 use Rattle.task_turns.specs.declared.next.Next.TheVariants.{Call as CallNext}
 use Rattle.task_turns.specs.Turns.{seen_of, IsGiven, CallStands}
 use Rattle.bench.specs.declared.made.Made.{Made}
@@ -246,13 +246,15 @@ module _ (book : Plain) (whole : Whole book) (number : ℕ) (bench : Seen) where
   user-rings task began (Generate tag app_id) change answer stands does = ring-stays (ap (λ b. b.keys) does.3)
   user-rings task began (Encrypt blob app_id nonce key) change answer stands does =
       ring-stays (ap (λ b. b.keys) does.1)
+  user-rings task began (Decrypt blob app_id text) change answer stands does =
+      ring-stays (ap (λ b. b.keys) does.1)
   user-rings task began (Add owner class key) change answer stands does =
       subst (λ u. bench.keys ≡ installed book.bench.keys u class key → RingThen (Some (Installed u class)))
       (sym stands.mine) (ring-added (user_of task) class key stands.given) (ap (λ b. b.keys) does.1)
   user-rings task began (Remove owner class) change answer stands does =
       ring-taken owner class (ap (λ b. b.keys) does.1)
   user-rings task began ListCall change answer stands does = absurd stands
-  user-rings task began (Read place) change answer stands does = absurd stands
+  user-rings task began (Read place) change answer stands does = ring-stays (ap (λ b. b.keys) does.3)
   user-rings task began Entries change answer stands does = absurd stands
 
   -- a call of a recovery's
@@ -261,10 +263,11 @@ module _ (book : Plain) (whole : Whole book) (number : ℕ) (bench : Seen) where
   recovery-rings recovery (Op owner op names) answer calls does = ring-stays (ap (λ b. b.keys) does.1)
   recovery-rings recovery Sync answer calls does = ring-synced (ap (λ b. b.keys) does.1)
   recovery-rings recovery ListCall answer calls does = ring-stays (ap (λ b. b.keys) does.2)
-  recovery-rings recovery (Read place) answer calls does = ring-stays (ap (λ b. b.keys) does.1)
+  recovery-rings recovery (Read place) answer calls does = ring-stays (ap (λ b. b.keys) does.3)
   recovery-rings recovery Entries answer calls does = ring-stays (ap (λ b. b.keys) does.1.2)
   recovery-rings recovery (Generate tag app_id) answer calls does = absurd calls
   recovery-rings recovery (Encrypt blob app_id nonce key) answer calls does = absurd calls
+  recovery-rings recovery (Decrypt blob app_id text) answer calls does = absurd calls
   recovery-rings recovery (Add user class key) answer calls does = absurd calls
   recovery-rings recovery (Remove user class) answer calls does = absurd calls
 

@@ -18,11 +18,12 @@ use Rattle.journal_model.specs.declared.commands.Reply.{Reply}
 use Rattle.journal_model.specs.declared.entries.Device.{Device}
 use Rattle.journal_model.specs.declared.entries.Device.TheVariants.{Tree as TreeDevice, Store as StoreDevice}
 use Rattle.journal_model.specs.declared.entries.Device.TheVariants.{Ring as RingDevice}
-use Rattle.journal_model.specs.Machine.{Running as Began, kind_of_reply, Success}
+use Rattle.journal_model.specs.Machine.{Running as Began, kind_of_reply, Outcome}
 use Rattle.journal_model.specs.Machine.{Refusal as RefusalKind, Fault as FaultKind}
-use Rattle.keystore_model.specs.Store.{IsStore, entry_of}
 use Rattle.keystore_model.proofs.Stores.{not-given}
+use Rattle.tree_model.specs.Disk.{view}
 use Rattle.user_world.specs.declared.changes.LocalChange.{LocalChange}
+use Rattle.user_world.specs.OwnWorlds.{own_view}
 use Rattle.user_world.specs.Turns.{adds_local, takes_local}
 use Rattle.step_core.specs.declared.jobs.Job.{Job}
 use Rattle.step_core.specs.Table.{NamedPlaces}
@@ -30,7 +31,7 @@ use Rattle.task_turns.specs.declared.calls.Answer.{Answer}
 use Rattle.task_turns.specs.declared.calls.Answer.TheVariants.{Blob as IsBlob, Sealed}
 use Rattle.task_turns.specs.declared.calls.Call.{Call}
 use Rattle.task_turns.specs.declared.calls.Call.TheVariants.{Op as OpCall, Sync, List as ListCall, Read}
-use Rattle.task_turns.specs.declared.calls.Call.TheVariants.{Generate, Encrypt, Entries, Add, Remove}
+use Rattle.task_turns.specs.declared.calls.Call.TheVariants.{Generate, Encrypt, Decrypt, Entries, Add, Remove}
 use Rattle.task_turns.specs.declared.next.Next.TheVariants.{Call as CallNext, Reply as ReplyNext}
 use Rattle.task_turns.specs.Turns.{seen_of, Scene, Cost, cost_of, no_cost, CallStands}
 use Rattle.bench.specs.declared.made.Made.{Made}
@@ -50,7 +51,9 @@ use Rattle.vold_book.specs.State.{Plain, Ground, ground_of}
 use Rattle.vold_book.specs.Tasks.{TaskStands, TaskShows, TaskAfter, Worked, Plans, lists_with, fault_of}
 use Rattle.vold_book.specs.Tasks.{scene_of, task_heard}
 use Rattle.vold_book.specs.Turns.{Making, IsFault}
-use Rattle.vold_book.specs.Whole.{turns_of_task, makes_in, draws_in, lists_in, due_in, same_device}
+use Rattle.vold_book.proofs.HeardCalls.{found-own}
+use Rattle.user_world.proofs.Timelines.{view-shown}
+use Rattle.vold_book.specs.Whole.{Whole, turns_of_task, makes_in, draws_in, lists_in, due_in, same_device}
 
 -- a blob that is heard has its 32 bytes
 abbrev pub HearsWhole : Made → Type 0
@@ -117,57 +120,70 @@ record UserFalls (task then : UserTask) (cost : Cost) : Type 0 where
   makes : (rest_of then).makes + cost.makes ≤ (rest_of task).makes
   draws : (rest_of then).draws + cost.draws ≤ (rest_of task).draws
 
-module _ (before after : Seen) (store : IsStore before.store) (task : UserTask) (scene : Scene)
+module _ (book : Plain) (book_whole : Whole book) (after : Seen) (task : UserTask) (began : Began)
     (change : Option LocalChange) (answer : Answer) (whole : HearsWhole (Heard answer)) where
-  user-falls : (call : Call) → scene.share.vault.entries ≡ before.store.entries
-      → CallStands (seen_of tasks task) scene call change → Does before after call answer
+  abbrev scene : Scene
+  scene = scene_of (user_of task) (ground_of book) began
+
+  user-falls : (call : Call) → CallStands (seen_of tasks task) scene call change → Does book.bench after call answer
       → UserFalls task (tasks.after task answer) (cost_of call)
-  user-falls (OpCall owner op names) same stands does =
+  user-falls (OpCall owner op names) stands does =
       subst (λ a. UserFalls task (tasks.after task a) (cost_of (OpCall owner op names))) (sym does.0) (record {
         turns = stands.leads.falls;
         makes = stands.leads.makes;
         draws = stands.leads.draws;
       })
-  user-falls Sync same stands does =
+  user-falls Sync stands does =
       subst (λ a. UserFalls task (tasks.after task a) no_cost) (sym does.0) (record {
         turns = stands.leads.falls;
         makes = stands.leads.makes;
         draws = stands.leads.draws;
       })
-  user-falls ListCall same stands does = absurd stands
-  user-falls (Read place) same stands does = absurd stands
-  user-falls (Generate tag app_id) same stands does =
-      let none = ap (λ es. entry_of es does.0) same ∙ not-given before.store does.0 store does.2.fresh in
+  user-falls ListCall stands does = absurd stands
+  user-falls (Read place) stands does =
+      let shows = stands.each does.0 (found-own (own_view scene.share.own) (view book.bench.disk) (user_of task) place
+      (view-shown (user_of task) _ _ book_whole.worlds.shows) stands.mine ∙ does.1) in
+      subst (λ a. UserFalls task (tasks.after task a) no_cost) (sym does.2) (record {
+        turns = shows.leads.falls;
+        makes = shows.leads.makes;
+        draws = shows.leads.draws;
+      })
+  user-falls (Generate tag app_id) stands does =
+      let none = not-given book.bench.store does.0 book_whole.store does.2.fresh in
       let shows = stands.each does.0 does.2.key (whole does.0 (ap Heard does.1)) none in
       subst (λ a. UserFalls task (tasks.after task a) (cost_of (Generate tag app_id))) (sym does.1) (record {
         turns = shows.leads.falls;
         makes = shows.leads.makes;
         draws = shows.leads.draws;
       })
-  user-falls (Encrypt blob app_id nonce key) same stands does =
+  user-falls (Encrypt blob app_id nonce key) stands does =
       let under = stands.1.under in
-      let found : entry_of before.store.entries blob ≡ Some under.entry = ap (λ es. entry_of es blob) (sym same)
-      ∙ under.live in
       let heard : answer ≡ Sealed (sealed_text under.entry.key nonce key) = does.0
-      ∙ ap (λ entry. Sealed (if_there entry [] (λ e. sealed_text e.key nonce key))) found in
+      ∙ ap (λ entry. Sealed (if_there entry [] (λ e. sealed_text e.key nonce key))) under.live in
       subst (λ a. UserFalls task (tasks.after task a) no_cost) (sym heard) (record {
         turns = stands.1.leads.falls;
         makes = stands.1.leads.makes;
         draws = stands.1.leads.draws;
       })
-  user-falls (Add owner class key) same stands does =
+  user-falls (Decrypt blob app_id text) stands does =
       subst (λ a. UserFalls task (tasks.after task a) no_cost) (sym does.0) (record {
         turns = stands.leads.falls;
         makes = stands.leads.makes;
         draws = stands.leads.draws;
       })
-  user-falls (Remove owner class) same stands does =
+  user-falls (Add owner class key) stands does =
       subst (λ a. UserFalls task (tasks.after task a) no_cost) (sym does.0) (record {
         turns = stands.leads.falls;
         makes = stands.leads.makes;
         draws = stands.leads.draws;
       })
-  user-falls Entries same stands does = absurd stands
+  user-falls (Remove owner class) stands does =
+      subst (λ a. UserFalls task (tasks.after task a) no_cost) (sym does.0) (record {
+        turns = stands.leads.falls;
+        makes = stands.leads.makes;
+        draws = stands.leads.draws;
+      })
+  user-falls Entries stands does = absurd stands
 
 -- an operation of a recovery makes no directory, since it makes nothing that its turns don't count
 makes-none : (places : NamedPlaces) (recovery : Recovery) (owner : ℕ) (op : LocalOp) (names : Option Blob)
@@ -253,10 +269,11 @@ module _ (book : Plain) (after : Seen) (recovery : Recovery) (answer : Answer)
       (shows after.places does.1).falls refl refl (omega arith)
   recovery-falls (Read place) shows does =
       comes-falls book.bench.places after.places recovery answer lasts (Read place)
-      (with_read (ground_of book) place).places (ap (λ b. b.places) does.1) shows.1.falls refl refl
+      (with_read (ground_of book) place).places (ap (λ b. b.places) does.3) shows.1.falls refl refl
       (let few = lists-few (recovery_after (Read place) recovery) in omega (arith, few))
   recovery-falls (Generate tag app_id) shows does = absurd shows
   recovery-falls (Encrypt blob app_id nonce key) shows does = absurd shows
+  recovery-falls (Decrypt blob app_id text) shows does = absurd shows
   recovery-falls (Add user class key) shows does = absurd shows
   recovery-falls (Remove user class) shows does = absurd shows
   recovery-falls Entries shows does =
@@ -284,14 +301,13 @@ module _ (book : Plain) (began : Began) (call : Call) (change : Option LocalChan
   call-lasts (Refusal reply) shows = cc
   call-lasts (Fault device held) shows = cc
 
-  module _ (after : Seen) (store : IsStore book.bench.store) where
+  module _ (after : Seen) (book_whole : Whole book) where
     heard-falls : (answer : Answer) (task then : Task) → HearsWhole (Heard answer)
         → TaskShows (ground_of book) began task (CallNext call change) → Does book.bench after call answer
         → then ≡ task_heard call answer task
         → CallFalls book.bench.places after.places call (Heard answer) task then
     heard-falls answer (Using task) then whole shows does is =
-        let falls = user-falls book.bench after store task (scene_of (user_of task) (ground_of book) began) change
-        answer whole call refl shows.stands does in
+        let falls = user-falls book book_whole after task began change answer whole call shows.stands does in
         let none = lists-none (scene_of (user_of task) (ground_of book) began) task call shows.stands in
         subst (CallFalls book.bench.places after.places call (Heard answer) (Using task)) (sym is) (record {
           turns = falls.turns;
@@ -305,9 +321,10 @@ module _ (book : Plain) (began : Began) (call : Call) (change : Option LocalChan
         lists-none scene task (OpCall owner op names) stands = refl
         lists-none scene task Sync stands = refl
         lists-none scene task ListCall stands = absurd stands
-        lists-none scene task (Read place) stands = absurd stands
+        lists-none scene task (Read place) stands = refl
         lists-none scene task (Generate tag app_id) stands = refl
         lists-none scene task (Encrypt blob app_id nonce key) stands = refl
+        lists-none scene task (Decrypt blob app_id text) stands = refl
         lists-none scene task (Add owner class key) stands = refl
         lists-none scene task (Remove owner class) stands = refl
         lists-none scene task Entries stands = absurd stands
@@ -351,13 +368,13 @@ module _ (book : Plain) (actor : Actor) (it : Running) (making : Making)
         due-after book planned_began making.call making.change made making.task making.then device plans.shows then
 
     module _ (after : Seen) (is_made : IsMade book.bench after making.call (Ok made)) where
-      pub call-falls : IsStore book.bench.store → HearsWhole made
+      pub call-falls : Whole book → HearsWhole made
           → CallFalls book.bench.places after.places making.call made it.task making.then
-      call-falls store whole =
+      call-falls book_whole whole =
           let work = work-falls (ground_of book) planned_began book.bench.places it.task making.task plans.job
           plans.worked in
-          let call = task-falls book planned_began making.call making.change after store made making.task making.then
-          whole plans.shows is_made then in
+          let call = task-falls book planned_began making.call making.change after book_whole made making.task
+          making.then whole plans.shows is_made then in
           let work_turns = work.turns in
           let work_makes = work.makes in
           let work_draws = work.draws in
@@ -414,15 +431,15 @@ module _ (ground : Ground) (began : Began) (reply : Reply) (device : Device) whe
   task-told : (task : Task) → TaskStands ground task began → TaskShows ground began task (ReplyNext reply)
       → reply ≡ fault_of device → IsFault device task
   task-told (Using task) stands shows is =
-      absurd (success_fault (sym shows.success ∙ ap kind_of_reply is ∙ fault-kind device))
+      absurd (outcome_fault (sym shows.outcome ∙ ap kind_of_reply is ∙ fault-kind device))
     where
-      success_fault : Success ≡ FaultKind → ⊥
-      success_fault e = cc
+      outcome_fault : Outcome ≡ FaultKind → ⊥
+      outcome_fault e = cc
   task-told (Recovers recovery) stands shows is =
-      absurd (success_fault (ap kind_of_reply (sym shows.ended ∙ is) ∙ fault-kind device))
+      absurd (outcome_fault (ap kind_of_reply (sym shows.ended ∙ is) ∙ fault-kind device))
     where
-      success_fault : Success ≡ FaultKind → ⊥
-      success_fault e = cc
+      outcome_fault : Outcome ≡ FaultKind → ⊥
+      outcome_fault e = cc
   task-told (Refusal refusal) stands shows is =
       absurd (refusal_fault (sym stands.1 ∙ ap kind_of_reply (sym (next_reply reply refusal shows) ∙ is)
       ∙ fault-kind device))
@@ -441,17 +458,17 @@ module _ (ground : Ground) (began : Began) (reply : Reply) (device : Device) whe
   work-told task now None worked stands shows is =
       task-told task stands (subst (λ t. TaskShows ground began t (ReplyNext reply)) worked shows) is
   work-told (Using task) now (Some job) worked stands shows is =
-      absurd (success_fault (sym (success now worked.0 shows) ∙ ap kind_of_reply is ∙ fault-kind device))
+      absurd (outcome_fault (sym (success now worked.0 shows) ∙ ap kind_of_reply is ∙ fault-kind device))
     where
       success : (now : Task) → {then : UserTask} → now ≡ Using then → TaskShows ground began now (ReplyNext reply)
-          → kind_of_reply reply ≡ Success
-      success (Using then) is shows = shows.success
+          → kind_of_reply reply ≡ Outcome
+      success (Using then) is shows = shows.outcome
       success (Recovers recovery) is shows = cc
       success (Refusal refusal) is shows = cc
       success (Fault failed held) is shows = cc
 
-      success_fault : Success ≡ FaultKind → ⊥
-      success_fault e = cc
+      outcome_fault : Outcome ≡ FaultKind → ⊥
+      outcome_fault e = cc
   work-told (Recovers recovery) now (Some job) worked stands shows is = absurd worked
   work-told (Refusal refusal) now (Some job) worked stands shows is = absurd worked
   work-told (Fault failed held) now (Some job) worked stands shows is = absurd worked

@@ -19,7 +19,6 @@ use Rattle.journal_model.specs.declared.commands.Actor.TheVariants.{Boot}
 use Rattle.journal_model.specs.declared.commands.Command.{Command}
 use Rattle.journal_model.specs.declared.commands.Command.TheVariants.{Recover}
 use Rattle.journal_model.specs.declared.commands.Reply.{Reply}
-use Rattle.journal_model.specs.declared.entries.Birth.{Birth}
 use Rattle.journal_model.specs.Command.{actor_of, user_in}
 use Rattle.journal_model.specs.Actor.{actor_cmp, actor_total, actor_exact}
 use Rattle.sorted_map.specs.Sums.{total_by}
@@ -37,7 +36,7 @@ use Rattle.step_core.specs.Table.{NamedPlaces}
 use Rattle.task_turns.specs.declared.calls.Answer.{Answer}
 use Rattle.task_turns.specs.declared.calls.Call.{Call}
 use Rattle.task_turns.specs.declared.calls.Call.TheVariants.{Op as OpCall, Sync, List as ListCall, Read}
-use Rattle.task_turns.specs.declared.calls.Call.TheVariants.{Generate, Encrypt, Entries, Add, Remove}
+use Rattle.task_turns.specs.declared.calls.Call.TheVariants.{Generate, Encrypt, Decrypt, Entries, Add, Remove}
 use Rattle.task_turns.specs.Turns.{cost_of}
 use Rattle.bench.specs.declared.made.Made.{Made}
 use Rattle.bench.specs.declared.made.Made.TheVariants.{Heard, Failed}
@@ -50,7 +49,7 @@ use Rattle.vold_book.specs.declared.tasks.Task.TheVariants.{User as Using, Recov
 use Rattle.vold_book.specs.State.{Docket, Plain}
 use Rattle.vold_book.specs.Stops.{after_stop, after_restart}
 use Rattle.vold_book.specs.Tasks.{lists_with}
-use Rattle.vold_book.specs.Turns.{FirstTask, AcceptedTask, Making, new_book, after_call, with_command, unlisted}
+use Rattle.vold_book.specs.Turns.{Start, FirstTask, AcceptedTask, Making, new_book, after_call, with_command, unlisted}
 use Rattle.vold_book.specs.Recovery.{max_commands, max_places}
 use Rattle.vold_book.specs.Whole.{within, makes_in, draws_in, lists_in, makes_of, draws_of, lists_of, IsSmall}
 use Rattle.vold_book.proofs.Plains.{Beginning, begun_plain, begun_seen, work_of, replied_plain}
@@ -197,6 +196,7 @@ module _ (before after : Seen) where
   adds-failed (Read place) failed = adds-rests failed
   adds-failed (Generate tag app_id) failed = adds-rests failed
   adds-failed (Encrypt blob app_id nonce key) failed = adds-rests failed
+  adds-failed (Decrypt blob app_id text) failed = adds-rests failed
   adds-failed Entries failed = adds-rests failed
   adds-failed (Add user class key) failed = adds-rests failed
   adds-failed (Remove user class) failed = adds-rests failed
@@ -217,8 +217,8 @@ module _ (before after : Seen) where
       adds-none before after (ap (λ b. b.disk) does.2) (ap (λ b. b.store) does.2) (ap (λ b. b.list.next) does.2)
       (ap (λ b. b.list.promised) does.2)
   adds-done (Read place) answer few does =
-      adds-none before after (ap (λ b. b.disk) does.1) (ap (λ b. b.store) does.1) (ap (λ b. b.list.next) does.1)
-      (ap (λ b. b.list.promised) does.1)
+      adds-none before after (ap (λ b. b.disk) does.3) (ap (λ b. b.store) does.3) (ap (λ b. b.list.next) does.3)
+      (ap (λ b. b.list.promised) does.3)
   adds-done (Generate tag app_id) answer few does = record {
     trees = λ left is. exceeds-none before.disk left (subst (λ b. IsLeft b.disk left) does.3 is);
     given =
@@ -236,6 +236,9 @@ module _ (before after : Seen) where
     promised = ap (λ b. b.list.promised) does.3;
   }
   adds-done (Encrypt blob app_id nonce key) answer few does =
+      adds-none before after (ap (λ b. b.disk) does.1) (ap (λ b. b.store) does.1) (ap (λ b. b.list.next) does.1)
+      (ap (λ b. b.list.promised) does.1)
+  adds-done (Decrypt blob app_id text) answer few does =
       adds-none before after (ap (λ b. b.disk) does.1) (ap (λ b. b.store) does.1) (ap (λ b. b.list.next) does.1)
       (ap (λ b. b.list.promised) does.1)
   adds-done (Add user class key) answer few does =
@@ -287,17 +290,17 @@ small-bounds book small commands =
     }
 
 -- what begins makes and lists no more than each number may
-first-few : (command : Command) (birth : Birth) (seed : List ℕ) (verdict : Option Reply) (task : Task)
-    → FirstTask command birth seed verdict task
+first-few : (command : Command) (start : Start) (verdict : Option Reply) (task : Task)
+    → FirstTask command start verdict task
     → (makes_in task ≤ 2) × (draws_in task ≤ 2) × (lists_in task ≤ max_places)
-first-few command birth seed (Some reply) task first =
+first-few command start (Some reply) task first =
     let makes = ap makes_in first in
     let draws = ap draws_in first in
     let lists = ap lists_in first in
     (omega (arith, makes), omega (arith, draws), omega (arith, lists))
-first-few command birth seed None task first = by (user_in command) first
+first-few command start None task first = by (user_in command) first
   where
-    by : (user : Option ℕ) → AcceptedTask command birth seed user task
+    by : (user : Option ℕ) → AcceptedTask command start user task
         → (makes_in task ≤ 2) × (draws_in task ≤ 2) × (lists_in task ≤ max_places)
     by (Some user) first =
         let makes = ap makes_in first.1 in
@@ -343,15 +346,15 @@ module _ (book : Plain) (small : IsSmall book) where
     unpromised = sizes.promised;
   }
 
-  pub small-begun : (actor : Actor) (begins : Beginning) (birth : Birth) (seed : List ℕ) (verdict : Option Reply)
+  pub small-begun : (actor : Actor) (begins : Beginning) (start : Start) (verdict : Option Reply)
       → map.get book.docket.waiting actor ≡ Some (begins.number ∷ begins.numbers)
-      → FirstTask begins.command birth seed verdict begins.task → IsSmall (begun_plain book actor begins)
-  small-begun actor begins birth seed verdict queue first =
+      → FirstTask begins.command start verdict begins.task → IsSmall (begun_plain book actor begins)
+  small-begun actor begins start verdict queue first =
       small-docket (begun_plain book actor begins) (begun-sizes begins.task book.bench small.unpromised)
       (fits 2 draws_of few.1) (fits 2 makes_of few.0) (fits max_places lists_of few.2)
     where
       few : (makes_in begins.task ≤ 2) × (draws_in begins.task ≤ 2) × (lists_in begins.task ≤ max_places)
-      few = first-few begins.command birth seed verdict begins.task first
+      few = first-few begins.command start verdict begins.task first
 
       fits : (each : ℕ) (of : Running → ℕ) → of (work_of begins) ≤ each → (made : ℕ)
           → within book.docket each of made

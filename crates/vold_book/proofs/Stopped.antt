@@ -134,6 +134,7 @@ module _ (book : Plain) (whole : Whole book) where
       seeded = steady.seeded;
       store = steady.store;
       level = steady.level;
+      current = steady.current;
       images = whole.images;
       worlds = whole.worlds;
       ring = steady.ring;

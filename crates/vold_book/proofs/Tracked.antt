@@ -18,7 +18,7 @@ use Rattle.journal_model.specs.Machine.{Machine, after_entry, machine_from, mach
 use Rattle.task_turns.specs.declared.calls.Answer.{Answer}
 use Rattle.task_turns.specs.declared.calls.Call.{Call}
 use Rattle.task_turns.specs.declared.calls.Call.TheVariants.{Op as OpCall, Sync, List as ListCall, Read}
-use Rattle.task_turns.specs.declared.calls.Call.TheVariants.{Generate, Encrypt, Entries, Add, Remove}
+use Rattle.task_turns.specs.declared.calls.Call.TheVariants.{Generate, Encrypt, Decrypt, Entries, Add, Remove}
 use Rattle.tree_model.specs.declared.blobs.Blob.{Blob}
 use Rattle.bench.specs.declared.made.Made.{Made}
 use Rattle.bench.specs.declared.made.Made.TheVariants.{Heard, Failed}
@@ -92,9 +92,10 @@ module _ (before after : Seen) (tracker : TrackerState)
       ∙ ap (λ b. changes_made b.disk.stable b.disk.pending) (sym done.1)
   done-pending Sync answer change told done = ap (λ b. changes_made b.disk.stable b.disk.pending) (sym done.1)
   done-pending ListCall answer change told done = same_disk (ap (λ b. b.disk) done.2)
-  done-pending (Read place) answer change told done = same_disk (ap (λ b. b.disk) done.1)
+  done-pending (Read place) answer change told done = same_disk (ap (λ b. b.disk) done.3)
   done-pending (Generate tag app_id) answer change told done = same_disk (ap (λ b. b.disk) done.3)
   done-pending (Encrypt blob app_id nonce key) answer change told done = same_disk (ap (λ b. b.disk) done.1)
+  done-pending (Decrypt blob app_id text) answer change told done = same_disk (ap (λ b. b.disk) done.1)
   done-pending Entries answer change told done = same_disk (ap (λ b. b.disk) done.1.2)
   done-pending (Add user class key) answer change told done = same_disk (ap (λ b. b.disk) done.1)
   done-pending (Remove user class) answer change told done = same_disk (ap (λ b. b.disk) done.1)
@@ -107,6 +108,7 @@ module _ (before after : Seen) (tracker : TrackerState)
   failed-pending (Read place) change failed = same_disk (ap (λ b. b.disk) failed)
   failed-pending (Generate tag app_id) change failed = same_disk (ap (λ b. b.disk) failed)
   failed-pending (Encrypt blob app_id nonce key) change failed = same_disk (ap (λ b. b.disk) failed)
+  failed-pending (Decrypt blob app_id text) change failed = same_disk (ap (λ b. b.disk) failed)
   failed-pending Entries change failed = same_disk (ap (λ b. b.disk) failed)
   failed-pending (Add user class key) change failed = same_disk (ap (λ b. b.disk) failed)
   failed-pending (Remove user class) change failed = same_disk (ap (λ b. b.disk) failed)
@@ -132,6 +134,7 @@ noted-stays true ListCall change tracker = record { phase = refl; boot = refl; l
 noted-stays true (Read place) change tracker = record { phase = refl; boot = refl; level = refl }
 noted-stays true (Generate tag app_id) change tracker = record { phase = refl; boot = refl; level = refl }
 noted-stays true (Encrypt blob app_id nonce key) change tracker = record { phase = refl; boot = refl; level = refl }
+noted-stays true (Decrypt blob app_id text) change tracker = record { phase = refl; boot = refl; level = refl }
 noted-stays true Entries change tracker = record { phase = refl; boot = refl; level = refl }
 noted-stays true (Add user class key) change tracker = record { phase = refl; boot = refl; level = refl }
 noted-stays true (Remove user class) change tracker = record { phase = refl; boot = refl; level = refl }
@@ -152,6 +155,7 @@ noted-stays false ListCall change tracker = record { phase = refl; boot = refl; 
 noted-stays false (Read place) change tracker = record { phase = refl; boot = refl; level = refl }
 noted-stays false (Generate tag app_id) change tracker = record { phase = refl; boot = refl; level = refl }
 noted-stays false (Encrypt blob app_id nonce key) change tracker = record { phase = refl; boot = refl; level = refl }
+noted-stays false (Decrypt blob app_id text) change tracker = record { phase = refl; boot = refl; level = refl }
 noted-stays false Entries change tracker = record { phase = refl; boot = refl; level = refl }
 noted-stays false (Add user class key) change tracker = record { phase = refl; boot = refl; level = refl }
 noted-stays false (Remove user class) change tracker = record { phase = refl; boot = refl; level = refl }
@@ -170,6 +174,7 @@ failed-durable ListCall change tracker = refl
 failed-durable (Read place) change tracker = refl
 failed-durable (Generate tag app_id) change tracker = refl
 failed-durable (Encrypt blob app_id nonce key) change tracker = refl
+failed-durable (Decrypt blob app_id text) change tracker = refl
 failed-durable Entries change tracker = refl
 failed-durable (Add user class key) change tracker = refl
 failed-durable (Remove user class) change tracker = refl

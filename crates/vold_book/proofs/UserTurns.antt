@@ -15,7 +15,7 @@ use Rattle.tree_model.specs.Tree.{if_there}
 use Rattle.tree_model.specs.Disk.{view, with_op, synced}
 use Rattle.deferred_delete.specs.Deferral.{noted as items_noted}
 use Rattle.tree_model.specs.Parts.{part_of, LocalFits}
-use Rattle.tree_model.specs.Sites.{op_of}
+use Rattle.tree_model.specs.Sites.{op_of, site_of}
 use Rattle.tree_model.proofs.Maps.{get-insert_same, get-insert_other}
 use Rattle.tree_model.specs.declared.places.Class.{Class}
 use Rattle.key_ring.specs.Ring.{Owner, Ring, key_of, installed, removed, with_owner, without_owner}
@@ -51,14 +51,15 @@ use Rattle.task_turns.specs.declared.calls.Answer.{Answer}
 use Rattle.task_turns.specs.declared.calls.Call.{Call}
 use Rattle.task_turns.specs.Shares.{AllHas, AreHeld}
 use Rattle.task_turns.specs.Turns.{seen_of, Rests, AllOwned, Scene, Leads, cost_of, OpShows, SyncShows, GenerateShows}
-use Rattle.task_turns.specs.Turns.{EncryptShows, AddShows, RemoveShows, no_cost}
+use Rattle.task_turns.specs.Turns.{EncryptShows, DecryptShows, ReadShows, AddShows, RemoveShows, no_cost}
 use Rattle.task_turns.specs.Turns.{operated, IsOwned, BlobShows, CallShows}
-use Rattle.task_turns.specs.declared.calls.Answer.TheVariants.{Done, Blob as IsBlob, Sealed}
-use Rattle.task_turns.specs.declared.calls.Call.TheVariants.{Op as OpCall, Sync, Generate, Encrypt}
+use Rattle.task_turns.specs.declared.calls.Answer.TheVariants.{Done, Directory, Blob as IsBlob, Sealed, Decrypted}
+use Rattle.task_turns.specs.declared.calls.Call.TheVariants.{Op as OpCall, Sync, Generate, Encrypt, Decrypt}
 use Rattle.task_turns.specs.declared.calls.Call.TheVariants.{List as ListCall, Read, Entries, Add, Remove}
 use Rattle.task_turns.proofs.Lasting.{facts-last}
 use Rattle.bench.specs.declared.made.Made.TheVariants.{Heard, Failed}
 use Rattle.bench.specs.Bench.{Plain as Seen, Does, Fits, IsFailed, IsFailedOp, IsMade, Rests as AllRests, places_after}
+use Rattle.bench.specs.Bench.{named_in}
 use Rattle.bench.specs.Seen.{AnswersWhole}
 use Rattle.journal_model.specs.declared.entries.Device.{Device}
 use Rattle.bench.specs.Known.{Knows, IsLasting}
@@ -80,7 +81,13 @@ use Rattle.vold_book.proofs.Numbers.{quiet-evicted}
 use Rattle.vold_book.proofs.StepsMade.{Keeps, same-line, step-fits, step-told, step-failed, failed-disk, all-changes}
 use Rattle.vold_book.proofs.Tracked.{ChangeIsTold, pending-noted, noted-stays, failed-durable}
 use Rattle.bench.proofs.Failures.{failed-keys}
-use Rattle.bench.proofs.Known.{knows-view, knows-failed}
+use Rattle.bench.proofs.Known.{knows-view, knows-failed, knows-read}
+use Rattle.keystore_model.specs.Sealed.{decrypted}
+use Rattle.step_core.specs.Table.{NamedPlaces, named_by}
+use Rattle.tree_model.specs.declared.places.Place.{Place}
+use Rattle.tree_model.specs.Dir.{Files}
+use Rattle.user_world.specs.OwnWorlds.{own_view}
+use Rattle.vold_book.proofs.HeardCalls.{found-own}
 use Rattle.task_turns.specs.Names.{BringsBlob}
 use Rattle.user_world.specs.Meaning.{Meaning}
 
@@ -115,6 +122,7 @@ rests-still before after user task began leaves differ rests = record {
     seed = leaves.seed;
     keys = leaves.keys (user_of task) differ;
     kept = λ blob is. leaves.kept blob;
+    named = λ blob names. leaves.kept blob;
   }) rests.known rests.facts;
   known = rests.known;
   owned = λ blob is. let owned = rests.owned blob is in record {
@@ -156,42 +164,26 @@ at-one blobs blob b is one = elim (Contains-cases blob [] b one) [
   | inr none ↦ absurd (Contains-none b none)
 ]
 
--- what a call leaves that touches the keystore or the ring alone: both, and whose keys the machine has in the ring
+-- what a call leaves that makes no operation: the keystore, the ring, the places, and whose keys the machine has in the
+-- ring
 pub record Aside : Type 0 where
   pub store : Store
   pub keys : Ring
+  pub places : NamedPlaces
   pub owners : List Owner
 
--- a call of the keystore leaves the ring, and one of the ring the keystore
-counted-too : (before after : Seen) (store : Store)
-    → after ≡ record before { store = store; store_counts = after.store_counts }
-    → after ≡ record before {
-      store = store;
+-- a bench, but for its counts
+counted-too : (after target : Seen) → after ≡ target
+    → after ≡ record target {
+      tree_counts = after.tree_counts;
       store_counts = after.store_counts;
-      keys = before.keys;
       ring_counts = after.ring_counts;
     }
-counted-too before after store same =
-    same ∙ ap (λ counts. record before {
-      store = store;
-      store_counts = after.store_counts;
-      ring_counts = counts;
-    }) (sym (ap (λ b. b.ring_counts) same))
-
-added-too : (before after : Seen) (keys : Ring)
-    → after ≡ record before { keys = keys; ring_counts = after.ring_counts }
-    → after ≡ record before {
-      store = before.store;
-      store_counts = after.store_counts;
-      keys = keys;
-      ring_counts = after.ring_counts;
-    }
-added-too before after keys same =
-    same ∙ ap (λ counts. record before {
-      store_counts = counts;
-      keys = keys;
-      ring_counts = after.ring_counts;
-    }) (sym (ap (λ b. b.store_counts) same))
+counted-too after target same = λ i. record (same i) {
+  tree_counts = after.tree_counts;
+  store_counts = after.store_counts;
+  ring_counts = after.ring_counts;
+}
 
 module _ (book : Plain) (actor : Actor) (number : ℕ) (task : UserTask) (whole : Whole book)
     (on : RunsOn (ground_of book) (machine_of book) actor (record { number = number; task = Using task }))
@@ -548,14 +540,15 @@ module _ (book : Plain) (actor : Actor) (number : ℕ) (task : UserTask) (whole 
   heard_after call answer bench = after_of book number
       (record { call = call; change = None; task = Using task; then = Using (heard answer) }) (Heard answer) bench
 
-  -- a call of the keystore or of the ring leaves the disk, the places and the list, and of the machine all but whose
-  -- keys are in the ring
+  -- a call with no operation leaves the disk and the list, and of the machine all but whose keys are in the ring
   module _ (call : Call) (answer : Answer) (bench : Seen) (aside : Aside)
       (same : bench ≡ record book.bench {
+        tree_counts = bench.tree_counts;
         store = aside.store;
         store_counts = bench.store_counts;
         keys = aside.keys;
         ring_counts = bench.ring_counts;
+        places = aside.places;
       })
       (plain : noted true call false book.tracker ≡ book.tracker)
       (then : machine_with book.ledger.entries machine (entry_of_call number call None)
@@ -567,6 +560,7 @@ module _ (book : Plain) (actor : Actor) (number : ℕ) (task : UserTask) (whole 
       pub may : may_with book.ledger.entries machine (entry_of_call number call None)
       pub quiet : IfSome (entry_of_call number call None) IsQuiet
       pub level : aside.store.level ≡ book.bench.store.level
+      pub knows : Knows aside.places (view book.bench.disk)
       pub kept : (blob : Blob)
           → KeepsEntry (vault_of book.seed book.bench.store) (vault_of book.seed aside.store) blob
       pub keys : (other : ℕ) → other ≢ user → key_of aside.keys other ≡ key_of book.bench.keys other
@@ -619,7 +613,7 @@ module _ (book : Plain) (actor : Actor) (number : ℕ) (task : UserTask) (whole 
               ∙ ap (λ b. changes_made b.disk.stable b.disk.pending) (sym same);
         };
         phase = ap (λ t. t.phase) plain;
-        knows = subst (λ b. Knows b.places (view b.disk)) (sym same) known;
+        knows = subst (λ b. Knows b.places (view b.disk)) (sym same) led.knows;
       }
 
       pub aside-moves : Moves book actor number aside_after
@@ -627,11 +621,21 @@ module _ (book : Plain) (actor : Actor) (number : ℕ) (task : UserTask) (whole 
 
   -- a call of the keystore leaves the ring
   abbrev of_store : Store → Aside
-  of_store store = record { store = store; keys = book.bench.keys; owners = machine.ring }
+  of_store store = record {
+    store = store;
+    keys = book.bench.keys;
+    places = book.bench.places;
+    owners = machine.ring;
+  }
 
   -- and one of the ring the keystore
   abbrev of_ring : Ring → List Owner → Aside
-  of_ring keys owners = record { store = book.bench.store; keys = keys; owners = owners }
+  of_ring keys owners = record {
+    store = book.bench.store;
+    keys = keys;
+    places = book.bench.places;
+    owners = owners;
+  }
 
   -- an entry is made
   module _ (tag : Tag) (app_id : List ℕ) (blob : Blob) (bench : Seen)
@@ -678,10 +682,11 @@ module _ (book : Plain) (actor : Actor) (number : ℕ) (task : UserTask) (whole 
         let now : bench ≡ record book.bench { store = then_store; store_counts = bench.store_counts } =
         same ∙ ap (λ s. record book.bench { store = s; store_counts = bench.store_counts }) generated.made in
         aside-moves (Generate tag app_id) (IsBlob blob) bench (of_store then_store)
-        (counted-too book.bench bench then_store now) refl refl (record {
+        (counted-too bench _ now) refl refl (record {
           may = tt;
           quiet = tt;
           level = refl;
+          knows = known;
           kept = kept;
           keys = λ other differ. refl;
           worlds = worlds-later (vault_of book.seed book.bench.store) made_vault line (record {
@@ -703,10 +708,11 @@ module _ (book : Plain) (actor : Actor) (number : ℕ) (task : UserTask) (whole 
   encrypt-moves blob app_id nonce key bench shows same =
       let answer = Sealed (sealed_text shows.under.entry.key nonce key) in
       aside-moves (Encrypt blob app_id nonce key) answer bench (of_store book.bench.store)
-      (counted-too book.bench bench book.bench.store same) refl refl (record {
+      (counted-too bench _ same) refl refl (record {
         may = tt;
         quiet = tt;
         level = refl;
+        knows = known;
         kept = λ b entry live. live;
         keys = λ other differ. refl;
         worlds = whole.worlds;
@@ -714,6 +720,60 @@ module _ (book : Plain) (actor : Actor) (number : ℕ) (task : UserTask) (whole 
         owned = owned-still (heard answer) (inl shows.held);
         differ = differ-still (heard answer) (inl shows.held);
       })
+
+  -- a sealed key is opened
+  pub decrypt-moves : (blob : Blob) (app_id text : List ℕ) (bench : Seen)
+      → DecryptShows (seen_of tasks task) scene blob app_id text None
+      → bench ≡ record book.bench { store_counts = bench.store_counts }
+      → Moves book actor number (heard_after (Decrypt blob app_id text)
+      (Decrypted (decrypted book.bench.store blob app_id text)) bench)
+  decrypt-moves blob app_id text bench shows same =
+      let answer = Decrypted (decrypted book.bench.store blob app_id text) in
+      aside-moves (Decrypt blob app_id text) answer bench (of_store book.bench.store)
+      (counted-too bench _ same) refl refl (record {
+        may = tt;
+        quiet = tt;
+        level = refl;
+        knows = known;
+        kept = λ b entry live. live;
+        keys = λ other differ. refl;
+        worlds = whole.worlds;
+        leads = shows.leads;
+        owned = owned-still (heard answer) (inl shows.held);
+        differ = differ-still (heard answer) (inl shows.held);
+      })
+
+  -- a directory of the user's is read
+  module _ (place : Place) (files : Files) (shows : ReadShows (seen_of tasks task) scene place None)
+      (found : map.get (view book.bench.disk) place ≡ Some files) where
+    found-here : own_view scene.share.own (site_of place) ≡ Some files
+    found-here = found-own (own_view scene.share.own) (view book.bench.disk) user place
+        (view-shown user _ line whole.worlds.shows) shows.mine ∙ found
+
+    pub read-hears : tasks.hears task (Directory files)
+    read-hears = (shows.each files found-here).leads.hears
+
+    pub read-moves : (bench : Seen) → bench ≡ record book.bench {
+      tree_counts = bench.tree_counts;
+      places = map.insert book.bench.places place (named_by (named_in (map.get (view book.bench.disk) place)));
+    } → Moves book actor number (heard_after (Read place) (Directory files) bench)
+    read-moves bench same =
+        let each = shows.each files found-here in
+        aside-moves (Read place) (Directory files) bench (record (of_store book.bench.store) {
+          places = map.insert book.bench.places place (named_by (named_in (map.get (view book.bench.disk) place)));
+        }) (counted-too bench _ same) refl refl (record {
+          may = tt;
+          quiet = tt;
+          level = refl;
+          knows = knows-read IsLasting (λ u lasting. lasting tt) book.bench.places (view book.bench.disk) place
+              (ap is_some found) known;
+          kept = λ b entry live. live;
+          keys = λ other differ. refl;
+          worlds = whole.worlds;
+          leads = each.leads;
+          owned = owned-still (heard (Directory files)) (inl each.held);
+          differ = differ-still (heard (Directory files)) (inl each.held);
+        })
 
   -- a key comes into the ring
   pub add-moves : (class : Class) (key : List ℕ) (bench : Seen)
@@ -726,7 +786,7 @@ module _ (book : Plain) (actor : Actor) (number : ℕ) (task : UserTask) (whole 
   add-moves class key bench shows same =
       let keys = installed book.bench.keys user class key in
       aside-moves (Add user class key) Done bench (of_ring keys (with_owner machine.ring user class))
-      (added-too book.bench bench keys same) refl refl (record {
+      (counted-too bench _ same) refl refl (record {
         may = (
           ap is_some (sym (known-shown user _ line whole.worlds.shows) ∙ shows.given.there),
           (
@@ -737,6 +797,7 @@ module _ (book : Plain) (actor : Actor) (number : ℕ) (task : UserTask) (whole 
         );
         quiet = quiet-installed user class;
         level = refl;
+        knows = known;
         kept = λ b entry live. live;
         keys = λ other differ. others-keys book.bench.keys user class key other differ;
         worlds = whole.worlds;
@@ -754,7 +815,7 @@ module _ (book : Plain) (actor : Actor) (number : ℕ) (task : UserTask) (whole 
   remove-moves class bench shows same =
       let keys = removed book.bench.keys user class in
       aside-moves (Remove user class) Done bench (of_ring keys (without_owner machine.ring user class))
-      (added-too book.bench bench keys same) refl refl (record {
+      (counted-too bench _ same) refl refl (record {
         may = (
           number,
           subst (λ found. IsSomeAnd found (λ b. (b.verdict ≡ None) × Evicts b.command user class))
@@ -762,6 +823,7 @@ module _ (book : Plain) (actor : Actor) (number : ℕ) (task : UserTask) (whole 
         );
         quiet = quiet-evicted user class;
         level = refl;
+        knows = known;
         kept = λ b entry live. live;
         keys = λ other differ. others-stay book.bench.keys user class other differ;
         worlds = whole.worlds;
@@ -838,7 +900,19 @@ module _ (book : Plain) (actor : Actor) (number : ℕ) (task : UserTask) (whole 
       (after_of book number (making_of (Remove u class) None Done) (Heard Done) bench)) (sym shows.stands.mine)
       (λ done stands. remove-moves class bench stands done) does.1) shows.stands)
   user-done ListCall change answer bench shows whole_blob does = absurd shows.stands
-  user-done (Read place) change answer bench shows whole_blob does = absurd shows.stands
+  user-done (Read place) change answer bench shows whole_blob does =
+      subst (λ c. ReadShows (seen_of tasks task) scene place c → Moves book actor number
+      (after_of book number (making_of (Read place) c answer) (Heard answer) bench)) (sym shows.stands.quiet)
+      (λ stands. subst (λ a. Moves book actor number
+      (after_of book number (making_of (Read place) None a) (Heard a) bench)) (sym does.2)
+      (read-moves place does.0 stands does.1 bench does.3)) shows.stands
+  user-done (Decrypt blob app_id text) change answer bench shows whole_blob does =
+      subst (λ c. DecryptShows (seen_of tasks task) scene blob app_id text c → Moves book actor number
+      (after_of book number (making_of (Decrypt blob app_id text) c answer) (Heard answer) bench))
+      (sym shows.stands.quiet)
+      (λ stands. subst (λ a. Moves book actor number
+      (after_of book number (making_of (Decrypt blob app_id text) None a) (Heard a) bench)) (sym does.0)
+      (decrypt-moves blob app_id text bench stands does.1)) shows.stands
   user-done Entries change answer bench shows whole_blob does = absurd shows.stands
 
   -- the task may hear what the device answered
@@ -863,7 +937,12 @@ module _ (book : Plain) (actor : Actor) (number : ℕ) (task : UserTask) (whole 
   user-hears (Remove owner class) change answer bench shows long does =
       subst (tasks.hears task) (sym does.0) shows.stands.leads.hears
   user-hears ListCall change answer bench shows long does = absurd shows.stands
-  user-hears (Read place) change answer bench shows long does = absurd shows.stands
+  user-hears (Read place) change answer bench shows long does =
+      subst (tasks.hears task) (sym does.2) (subst (λ c. ReadShows (seen_of tasks task) scene place c
+      → tasks.hears task (Directory does.0)) (sym shows.stands.quiet)
+      (λ stands. read-hears place does.0 stands does.1) shows.stands)
+  user-hears (Decrypt blob app_id text) change answer bench shows long does =
+      subst (tasks.hears task) (sym does.0) shows.stands.leads.hears
   user-hears Entries change answer bench shows long does = absurd shows.stands
 
   -- what a failed call leaves: nothing but the disk and the counts differs, and every world is kept
@@ -912,10 +991,11 @@ module _ (book : Plain) (actor : Actor) (number : ℕ) (task : UserTask) (whole 
     spares Sync shows failed = spares-same Sync tt failed
     spares (Generate tag app_id) shows failed = spares-same (Generate tag app_id) tt failed
     spares (Encrypt blob app_id nonce key) shows failed = spares-same (Encrypt blob app_id nonce key) tt failed
+    spares (Decrypt blob app_id text) shows failed = spares-same (Decrypt blob app_id text) tt failed
     spares (Add owner class key) shows failed = spares-same (Add owner class key) tt failed
     spares (Remove owner class) shows failed = spares-same (Remove owner class) tt failed
     spares ListCall shows failed = absurd shows.stands
-    spares (Read place) shows failed = absurd shows.stands
+    spares (Read place) shows failed = spares-same (Read place) tt failed
     spares Entries shows failed = absurd shows.stands
 
     -- a call that failed, which is told next
@@ -979,5 +1059,8 @@ module _ (book : Plain) (actor : Actor) (number : ℕ) (task : UserTask) (whole 
   user-fits (Add owner class key) change shows few = tt
   user-fits (Remove owner class) change shows few = tt
   user-fits ListCall change shows few = absurd shows.stands
-  user-fits (Read place) change shows few = absurd shows.stands
+  user-fits (Read place) change shows few =
+      ap is_some (sym (found-own (own_view scene.share.own) (view book.bench.disk) user place
+      (view-shown user _ line whole.worlds.shows) shows.stands.mine)) ∙ shows.stands.there
+  user-fits (Decrypt blob app_id text) change shows few = shows.stands.long
   user-fits Entries change shows few = absurd shows.stands

@@ -133,7 +133,7 @@ module _ {D E F : Type 0} (senses : Senses D E F) (before after : BookState (Ben
       subst (λ b. turns_left b < turns_left plain) (sym (ap (seen senses) calls.makes.state))
       (called-falls plain whole actor calls.it calls.plans.runs calls.making calls.makes.made bench
       (call-falls plain actor calls.it calls.making calls.plans calls.makes.made calls.makes.then bench
-      calls.makes.is_made whole.store (hears-whole calls.makes.made calls.makes.answers))
+      calls.makes.is_made whole (hears-whole calls.makes.made calls.makes.answers))
       (call-fits plain actor calls.it calls.making whole calls.plans) calls.makes.is_made)
   goes-falls (inr replies) =
       subst (λ b. turns_left b < turns_left plain) (sym (ap (seen senses) replies.replies.state))

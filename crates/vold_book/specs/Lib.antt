@@ -4,6 +4,8 @@ pub mod State
 pub mod Installed
 pub mod Recovery
 pub mod Tasks
+pub mod Slots
+pub mod Crowds
 pub mod Entries
 pub mod Whole
 pub mod Turns

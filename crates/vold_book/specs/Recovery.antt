@@ -25,7 +25,7 @@ use Rattle.key_directory.specs.Vaults.{sealed}
 use Rattle.step_core.specs.Table.{NamedPlaces, named_by}
 use Rattle.task_turns.specs.declared.calls.Call.{Call}
 use Rattle.task_turns.specs.declared.calls.Call.TheVariants.{Op, Sync, List as ListCall, Read, Generate, Encrypt}
-use Rattle.task_turns.specs.declared.calls.Call.TheVariants.{Entries, Add, Remove}
+use Rattle.task_turns.specs.declared.calls.Call.TheVariants.{Decrypt, Entries, Add, Remove}
 use Rattle.task_turns.specs.declared.next.Next.{Next}
 use Rattle.task_turns.specs.declared.next.Next.TheVariants.{Call as CallNext, Work as WorkNext, Reply as ReplyNext}
 use Rattle.task_turns.specs.Names.{Gains, Brings}
@@ -162,6 +162,7 @@ RecoveryCalls ground recovery (Read place) = (is_some (map.get (view ground.line
     × Comes ground recovery (Read place) (with_read ground place)
 RecoveryCalls ground recovery (Generate tag app_id) = ⊥
 RecoveryCalls ground recovery (Encrypt blob app_id nonce key) = ⊥
+RecoveryCalls ground recovery (Decrypt blob app_id text) = ⊥
 RecoveryCalls ground recovery (Add user class key) = ⊥
 RecoveryCalls ground recovery (Remove user class) = ⊥
 RecoveryCalls ground recovery Entries = EntriesShow ground recovery

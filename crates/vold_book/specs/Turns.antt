@@ -7,6 +7,7 @@ use Rattle.tree_model.specs.declared.device.DevFault.{DevFault}
 use Rattle.tree_model.specs.declared.device.DevFault.TheVariants.{Failed as DeviceFailed}
 use Rattle.tree_model.specs.declared.places.Class.{Class}
 use Rattle.tree_model.specs.declared.places.Place.TheVariants.{De}
+use Rattle.tree_model.specs.declared.places.Slot.{Slot}
 use Rattle.tree_model.specs.Disk.{view}
 use Rattle.tree_model.specs.Counted.{Counts}
 use Rattle.tree_model.specs.Touch.{SameFor}
@@ -51,7 +52,9 @@ use Rattle.vold_book.specs.declared.turns.Turn.{Turn}
 use Rattle.vold_book.specs.declared.turns.Turn.TheVariants.{Went, Idle, Waits}
 use Rattle.vold_book.specs.Entries.{entry_of, made_entry}
 use Rattle.vold_book.specs.Parts.{no_ledger, new_tracker, ledger_with, noted}
+use Rattle.vold_book.specs.Crowds.{is_crowded}
 use Rattle.vold_book.specs.Recovery.{max_commands, AllPlaced}
+use Rattle.vold_book.specs.Slots.{slots_for}
 use Rattle.vold_book.specs.State.{BookState, Plain, over, seen, machine_of}
 use Rattle.vold_book.specs.Sweeping.{IsTidy}
 use Rattle.vold_book.specs.Tasks.{begins_anew, lists_with, TaskAfter, fault_of}
@@ -105,20 +108,34 @@ user_there places (Some user) = is_some (map.get places (De user))
 abbrev pub facts_in : {B : Type 0} → NamedPlaces → BookState B → Command → Facts
 facts_in places book command = record {
   present = user_there places (user_in command);
+  crowded = is_crowded places book.docket;
   installed = is_unlocked (user_in command) (machine_of book).ring;
   ready = is_up book.tracker.phase;
 }
 
+-- what a command begins with: its birth, the seed of the boot, and the slots that it has to try
+pub record Start : Type 0 where
+  pub birth : Birth
+  pub boot_seed : List ℕ
+  pub slots : List Slot
+
+abbrev pub start_in : {B : Type 0} → NamedPlaces → BookState B → Actor → Command → Start
+start_in places book actor command = record {
+  birth = record { boot = book.tracker.boot; index = begun_by book.docket actor };
+  boot_seed = book.boot_seed;
+  slots = slots_for places command;
+}
+
 -- what a command does first that isn't refused: what a user's task begins with, or what a recovery does
-abbrev pub AcceptedTask : Command → Birth → List ℕ → Option ℕ → Task → Type 0
-AcceptedTask command birth boot_seed (Some user) task =
-    (first : UserTask) × (task ≡ Using first) × TaskBegins command birth boot_seed first
-AcceptedTask command birth boot_seed None task = task ≡ Recovery Listing
+abbrev pub AcceptedTask : Command → Start → Option ℕ → Task → Type 0
+AcceptedTask command start (Some user) task =
+    (first : UserTask) × (task ≡ Using first) × TaskBegins command start.birth start.boot_seed start.slots first
+AcceptedTask command start None task = task ≡ Recovery Listing
 
 -- what it does first: its refusal where one is due
-abbrev pub FirstTask : Command → Birth → List ℕ → Option Reply → Task → Type 0
-FirstTask command birth boot_seed (Some reply) task = task ≡ Refusal reply
-FirstTask command birth boot_seed None task = AcceptedTask command birth boot_seed (user_in command) task
+abbrev pub FirstTask : Command → Start → Option Reply → Task → Type 0
+FirstTask command start (Some reply) task = task ≡ Refusal reply
+FirstTask command start None task = AcceptedTask command start (user_in command) task
 
 -- a recovery knows nothing of the tree as it begins, and nothing is listed then
 abbrev pub unlisted : Deferral → Deferral
@@ -142,8 +159,8 @@ pub record Begins {D E F : Type 0} (before after : BookState (BenchState D E F))
   pub task : Task
   pub queued : map.get before.docket.waiting actor ≡ Some (number ∷ numbers)
   pub given : slice_get before.docket.commands number ≡ Some command
-  pub first : FirstTask command (record { boot = before.tracker.boot; index = begun_by before.docket actor })
-      before.boot_seed (refusal_of command (facts_in before.bench.places before command)) task
+  pub first : FirstTask command (start_in before.bench.places before actor command)
+      (refusal_of command (facts_in before.bench.places before command)) task
   pub state : after ≡ record before {
     bench = begun_bench task before.bench;
     ledger = record before.ledger { entries = before.ledger.entries ++ Began number actor command ∷ [] };

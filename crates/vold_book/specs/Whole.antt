@@ -32,6 +32,7 @@ use Rattle.sorted_map.specs.Sums.{total_by}
 use Rattle.docket.specs.Accounts.{Accounted}
 use Rattle.user_world.specs.Images.{ImagesStand}
 use Rattle.user_world.specs.Timelines.{OwnWorldsStand}
+use Rattle.key_directory.specs.Opened.{AreCurrent}
 use Rattle.key_directory.specs.Vaults.{sealed}
 use Rattle.step_core.specs.Table.{NamedPlaces}
 use Rattle.bench.specs.Bench.{BenchState, Senses, Plain as Seen, counts_of}
@@ -195,6 +196,7 @@ pub record Whole (book : Plain) : Type 0 where
   pub seeded : book.boot_seed ≡ boot_seed_of book.seed book.tracker.boot
   pub store : IsStore book.bench.store
   pub level : book.bench.store.level ≡ book.tracker.level
+  pub current : AreCurrent (vault_of book.seed book.bench.store)
   -- every tree that a stop can leave stands for the changes up to there
   pub images : ImagesStand (sealed (vault_of book.seed book.bench.store)) book.bench.disk (machine_of book).kept
       (machine_of book).log
@@ -229,7 +231,7 @@ turns_of places it = turns_of_task places it.task
 
 -- the most turns that a command has which waits, its beginning among them
 abbrev pub most_turns : ℕ
-most_turns = max_places + 40
+most_turns = 3 * max_places + 40
 
 -- a bound on the turns that can still be made without a further command: each directory that is there may have to be
 -- removed

@@ -13,6 +13,7 @@ ghost use Rattle.tree_model.specs.Counted.{IsCounted};
 ghost use Rattle.tree_model.specs.Disk.{view};
 ghost use Rattle.task_turns.specs.declared.next.Next.TheVariants.{Call as CallNext, Reply as ReplyNext};
 ghost use Rattle.vold_book.specs.Recovery.{max_commands};
+ghost use Rattle.vold_book.specs.Slots.{slots_for};
 ghost use Rattle.vold_book.specs.Stands.{standing_of, IsLooked};
 ghost use Rattle.vold_book.specs.State.{machine_of, seen, senses};
 ghost use Rattle.vold_book.specs.Steps.{IsStep, GoesOn, RepliesTo, IsPlanned, RepliesNext};
@@ -28,10 +29,10 @@ use crate::opened::{Counted, Opened};
 use crate::plans::{self, Plan, Planned};
 use crate::recovery::Recovery;
 use crate::standings::{self, Standing};
-use crate::sweeping;
 use crate::tasks::{Held, Running, Task, fault_of};
 use crate::tracker::Tracker;
 use crate::turns::{Step, Turn};
+use crate::{crowds, slots, sweeping};
 use bench::Bench;
 use deferred_delete::Deferred;
 use docket::Docket;
@@ -275,11 +276,16 @@ impl<T: TreeDisk, K: Keystore, G: KeyRing> Book<T, K, G> {
     /// What a command that begins does first: its refusal where one is due, and else its first turn.
     fn first_task(&self, command: &Command, number: u64, birth: Birth) -> Result<Task, NoMemory>
         requires { number < max_commands }
-        ensures { IfOk result (FirstTask command.now birth self.now.boot_seed
+        ensures { IfOk result (FirstTask command.now (record {
+          birth = birth;
+          boot_seed = self.now.boot_seed;
+          slots = slots_for self.now.bench.places command.now;
+        })
             (refusal_of command.now (facts_in self.now.bench.places self.now command.now))) }
     {
         let facts = Facts {
             present: self.is_there(command.user()),
+            crowded: crowds::is_crowded(&self.bench.table, &self.docket),
             installed: self.is_unlocked(command.user()),
             ready: self.tracker.phase() == Phase::Up,
         };
@@ -292,9 +298,15 @@ impl<T: TreeDisk, K: Keystore, G: KeyRing> Book<T, K, G> {
     /// What a command does first that isn't refused.
     fn accepted_task(&self, command: &Command, number: u64, birth: Birth) -> Result<Task, NoMemory>
         requires { number < max_commands }
-        ensures { IfOk result (AcceptedTask command.now birth self.now.boot_seed (user_in command.now)) }
+        ensures { IfOk result (AcceptedTask command.now (record {
+          birth = birth;
+          boot_seed = self.now.boot_seed;
+          slots = slots_for self.now.bench.places command.now;
+        })
+            (user_in command.now)) }
     {
-        match user_tasks::first(self.alloc, command, number, birth, &self.bench.seed)? {
+        let slots = slots::slots_for(self.alloc, &self.bench.table, command)?;
+        match user_tasks::first(self.alloc, command, number, birth, &self.bench.seed, slots)? {
             Some(task) => Ok(Task::User(task)),
             None => Ok(Task::Recovery(Recovery::Listing)),
         }

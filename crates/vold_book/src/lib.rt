@@ -4,12 +4,14 @@
 #![tactic(auto)]
 
 pub mod book;
+pub mod crowds;
 pub mod entries;
 pub mod ledger;
 pub mod opened;
 pub mod plans;
 pub mod recovery;
 pub mod run_end;
+pub mod slots;
 pub mod standings;
 pub mod sweeping;
 pub mod tasks;

@@ -12,7 +12,7 @@ means g = senses g.T.TreeDisk.disk g.T.TreeDisk.counts g.K.Keystore.store g.K.Ke
 pub returns-in_ok-begin-in-Begin-clause-falls : goal.returns-in_ok-begin-in-Begin-clause-falls
 returns-in_ok-begin-in-Begin-clause-falls g c =
     begins-falls (means g) c.args.self.now c.in-Begin.ensures.whole c.begin.new.self c.args.actor
-    c.in-Begin.ensures.step.0 c.in_ok-begin-in-Begin.ensures.begun
+    c.in-Begin.ensures.step.0 c.in_ok-begin-in-Begin.ensures.begun c.in-Begin.ensures.step.2
 
 pub returns-in_ok-go_on-in-GoOn-clause-turn : goal.returns-in_ok-go_on-in-GoOn-clause-turn
 returns-in_ok-go_on-in-GoOn-clause-turn g c =

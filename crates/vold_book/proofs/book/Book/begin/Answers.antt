@@ -7,6 +7,7 @@ use Rattle.journal_model.specs.Refusals.{refusal_of}
 use Rattle.docket.specs.Docket.{docket_of}
 use Rattle.bench.specs.Bench.{BenchState, Senses}
 use Rattle.vold_book.specs.State.{BookState, book_of, senses}
+use Rattle.vold_book.specs.Slots.{slots_for}
 use Rattle.vold_book.specs.Turns.{Begins, FirstTask, facts_in, unlisted}
 use Rattle.vold_book.proofs.Books.{begun-book, begins-whole}
 use Rattle.vold_book.proofs.Machines.{few-begin}
@@ -59,8 +60,11 @@ begun g c =
     c.begin_on.new.bench.seed c.reserve.new.self.now c.enter.new.self.now
     (docket_of actor_cmp c.begin.new.self) c.in_ok-begin.ensures.begun c.first-number.ensures.first
     (c.command.ensures ∙ ap Some (sym c.in_ok-command.ensures)) c.boot.ensures c.begun.ensures
-    (subst (λ b. FirstTask c.in_ok-command.command (record { boot = c.boot.result; index = c.begun.result })
-    b.boot_seed (refusal_of c.in_ok-command.command (facts_in b.bench.places b c.in_ok-command.command))
+    (subst (λ b. FirstTask c.in_ok-command.command (record {
+      birth = record { boot = c.boot.result; index = c.begun.result };
+      boot_seed = b.boot_seed;
+      slots = slots_for b.bench.places c.in_ok-command.command;
+    }) (refusal_of c.in_ok-command.command (facts_in b.bench.places b c.in_ok-command.command))
     c.in_ok-task.task) (sym c.self.view_is) c.in_ok-task.ensures)
     (λ i. record {
       tree = c.begin_on.ensures.tree i;
