@@ -1,57 +1,78 @@
-//! A create's first turns, with made-up answers.
+//! How a create and an unlock begin.
 
 use super::*;
-use journal_model::{Birth, Command};
+use journal_model::{Birth, Command, Secret};
+use std::alloc::Global;
 use std::test::Fail;
-use step_core::JobOutput;
-use task_turns::{Answer, Call, Next};
-use tree_model::{Blob, Bytes, LocalOp, Site};
+use task_turns::{Call, Next};
+use tree_model::{LocalOp, NoMemory, Place, Site, Slot};
+
+/// What the command does first, with these slots to try.
+fn begun(alloc: Global, command: &Command, slots: Vec<Slot>) -> Result<Option<UserTask>, NoMemory> {
+    first(
+        alloc,
+        command,
+        7,
+        Birth { boot: 1, index: 2 },
+        &[3; 32],
+        slots,
+    )
+}
+
+/// Whether the task removes the temporary directory, where one is in its way.
+fn removes_what_is_there(alloc: Global, task: &UserTask) -> Result<bool, NoMemory> {
+    match task.next(alloc, Some(Site::Temp))? {
+        Next::Call {
+            call: Call::Op { op, .. },
+            ..
+        } => Ok(matches!(op, LocalOp::RemoveDir(Site::Temp))),
+        _ => Ok(false),
+    }
+}
+
+/// Whether the task asks for a job, where nothing is in its way.
+fn asks_for_a_job(alloc: Global, task: &UserTask) -> Result<bool, NoMemory> {
+    Ok(matches!(task.next(alloc, None)?, Next::Work(_)))
+}
+
+/// Whether the task reads the user's current slot.
+fn reads_the_slot(alloc: Global, task: &UserTask) -> Result<bool, NoMemory> {
+    match task.next(alloc, None)? {
+        Next::Call {
+            call: Call::Read(place),
+            ..
+        } => Ok(place == Place::Ce(10, Slot::Current)),
+        _ => Ok(false),
+    }
+}
 
 #[test]
-fn begins_with_the_credential_key(rt: HostRuntime) -> Result<(), Fail> {
+fn create_begins_with_a_job(rt: HostRuntime) -> Result<(), Fail> {
     let alloc = rt.alloc();
-    let birth = Birth { boot: 1, index: 2 };
-    assert!(rt;
-        matches!(
-            first(
-                alloc,
-                &Command::Recover,
-                7,
-                birth,
-                &[3; 32],
-                Vec::new(alloc)
-            )?,
-            None
-        )
-    );
-    match first(
-        alloc,
-        &Command::Create { user: 10 },
-        7,
-        birth,
-        &[3; 32],
-        Vec::new(alloc),
-    )? {
-        Some(create) => {
-            assert_eq!(rt; create.user(), 10);
-            let copied = create.duplicate(alloc)?;
-            let removal = copied.next(alloc, Some(Site::Temp))?;
-            assert!(rt;
-                matches!(
-                    removal,
-                    Next::Call {
-                        call: Call::Op {
-                            op: LocalOp::RemoveDir(Site::Temp),
-                            ..
-                        },
-                        ..
-                    }
-                )
-            );
-            assert!(rt; matches!(copied.next(alloc, None)?, Next::Work(_)));
-            assert!(rt; matches!(copied.held(), [None, None]));
-        }
-        None => assert!(rt; false),
-    }
+    let command = Command::Create { user: 10 };
+    let task = begun(alloc, &command, Vec::new(alloc))?.ok_or("no task")?;
+    assert_eq!(rt; task.user(), 10);
+    assert!(rt; removes_what_is_there(alloc, &task)?);
+    assert!(rt; asks_for_a_job(alloc, &task)?);
+    Ok(())
+}
+
+#[test]
+fn unlock_begins_with_the_first_slot(rt: HostRuntime) -> Result<(), Fail> {
+    let alloc = rt.alloc();
+    let command = Command::Unlock {
+        user: 10,
+        secret: Secret::empty(alloc),
+    };
+    let slots = vec![in alloc; Slot::Current]?;
+    let task = begun(alloc, &command, slots)?.ok_or("no task")?;
+    assert!(rt; reads_the_slot(alloc, &task)?);
+    Ok(())
+}
+
+#[test]
+fn recovery_is_no_users_task(rt: HostRuntime) -> Result<(), Fail> {
+    let alloc = rt.alloc();
+    assert!(rt; begun(alloc, &Command::Recover, Vec::new(alloc))?.is_none());
     Ok(())
 }
