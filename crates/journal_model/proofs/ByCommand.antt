@@ -2,22 +2,24 @@
 -- phase its reply leaves.
 use Rattle.std.proofs.Common.{◌≡◌, ◌≢◌, ℕ, refl, ap}
 use Rattle.std.proofs.lemmas.Option.{same_Some}
-use Rattle.std.specs.Prelude.{Bool, true, false, not, Option, Some, None}
+use Rattle.std.specs.Prelude.{Bool, true, false, not, List, Option, Some, None}
 use Rattle.tree_model.specs.declared.places.Class.{Class}
 use Rattle.tree_model.specs.declared.places.Class.TheVariants.{De, Ce}
 use Rattle.journal_model.specs.declared.commands.Actor.{Actor}
 use Rattle.journal_model.specs.declared.commands.Actor.TheVariants.{Boot, Cp, User}
 use Rattle.journal_model.specs.declared.commands.Command.{Command}
-use Rattle.journal_model.specs.declared.commands.Command.TheVariants.{Create, Unlock, Lock, Recover}
+use Rattle.journal_model.specs.declared.commands.Command.TheVariants.{Create, Unlock, Lock, Protect, Recover}
 use Rattle.journal_model.specs.declared.commands.Reply.{Reply}
 use Rattle.journal_model.specs.declared.commands.Reply.TheVariants.{Done, Ended, UserExists, TooManyUsers, NoUser}
-use Rattle.journal_model.specs.declared.commands.Reply.TheVariants.{NotInstalled, WrongSecret, Ready}
+use Rattle.journal_model.specs.declared.commands.Reply.TheVariants.{NotInstalled, NoSlot, WrongSecret, Ready}
 use Rattle.journal_model.specs.declared.entries.Change.{Change}
+use Rattle.journal_model.specs.declared.entries.Change.TheVariants.{Add as Added}
 use Rattle.journal_model.specs.declared.phase.Phase.{Phase}
 use Rattle.journal_model.specs.declared.phase.Phase.TheVariants.{Halted}
 use Rattle.journal_model.specs.declared.refusals.Facts.{Facts}
 use Rattle.journal_model.specs.Command.{actor_of, user_in_actor, user_in}
-use Rattle.journal_model.specs.Machine.{Running, Evidence, AllowsOutcome, DidWork, DidRecover, GaveWrongSecret}
+use Rattle.journal_model.specs.Machine.{Running, Evidence, AllowsChange, AllowsOutcome, DidWork, DidRecover}
+use Rattle.journal_model.specs.Machine.{LacksSecret, GaveWrongSecret}
 use Rattle.journal_model.specs.Machine.{kind_of_reply, Outcome, Refusal, phase_after}
 use Rattle.journal_model.specs.Refusals.{refusal_of, due, first_due}
 use Rattle.journal_model.specs.Users.{Record}
@@ -27,6 +29,7 @@ pub no-user : (command : Command) → user_in command ≡ None → command ≡ R
 no-user (Create user) e = cc
 no-user (Unlock user secret) e = cc
 no-user (Lock user) e = cc
+no-user (Protect user given fresh) e = cc
 no-user Recover e = refl
 
 pub of-user : (command : Command) (user : ℕ) → user_in command ≡ Some user → actor_of command ≡ User user
@@ -42,9 +45,10 @@ pub user-stays : (phase : Phase) (user : ℕ) (command : Command) (reply : Reply
 user-stays phase user (Create owner) reply own = refl
 user-stays phase user (Unlock owner secret) reply own = refl
 user-stays phase user (Lock owner) reply own = refl
+user-stays phase user (Protect owner given fresh) reply own = refl
 user-stays phase user Recover reply own = cc
 
--- an outcome that is told by less is told by more
+-- a change and an outcome that are told by less are told by more
 module _ (less more : Evidence)
     (logged : (change : Change) → less.logged change → more.logged change)
     (durable : (of : Option ℕ) → less.durable of → more.durable of)
@@ -60,21 +64,37 @@ module _ (less more : Evidence)
   )
   did-work boot began (Unlock user secret) did = has user Ce true did
   did-work boot began (Lock user) did = has user Ce false did
+  did-work boot began (Protect user given fresh) did = (
+    (did.0.0, did.0.1, logged _ did.0.2),
+    durable (Some user) did.1,
+  )
   did-work boot began Recover did = absurd did
 
   did-recover : (count : ℕ) (command : Command) → DidRecover less count command → DidRecover more count command
   did-recover count Recover did = (did.0, durable None did.1)
   did-recover count command did = absurd did
 
-  gave-wrong-secret : (command : Command) → GaveWrongSecret less command → GaveWrongSecret more command
-  gave-wrong-secret (Unlock user secret) gave = (gave.0, recorded user gave.0 gave.1, gave.2)
-  gave-wrong-secret command gave = absurd gave
+  lacks : (user : ℕ) (secret : List ℕ) → LacksSecret less user secret → LacksSecret more user secret
+  lacks user secret lack = (lack.0, recorded user lack.0 lack.1, lack.2)
+
+  gave-wrong-secret : (began : Running) (command : Command) → GaveWrongSecret less began command
+      → GaveWrongSecret more began command
+  gave-wrong-secret began (Unlock user secret) gave = lacks user secret gave
+  gave-wrong-secret began (Protect user given fresh) gave = (gave.0, lacks user given gave.1)
+  gave-wrong-secret began command gave = absurd gave
+
+  pub change-more : (boot : ℕ) (began : Running) (command : Command) (change : Change)
+      → AllowsChange less boot began command change → AllowsChange more boot began command change
+  change-more boot began (Create user) change allowed = allowed
+  change-more boot began (Protect user given fresh) change allowed =
+      (allowed.0, (allowed.1.0, recorded user allowed.1.0 allowed.1.1, allowed.1.2))
+  change-more boot began command change allowed = absurd allowed
 
   pub outcome-more : (boot : ℕ) (began : Running) (reply : Reply) → AllowsOutcome less boot began reply
       → AllowsOutcome more boot began reply
   outcome-more boot began Done came = did-work boot began began.command came
   outcome-more boot began (Ended count) came = did-recover count began.command came
-  outcome-more boot began WrongSecret came = gave-wrong-secret began.command came
+  outcome-more boot began WrongSecret came = gave-wrong-secret began began.command came
   outcome-more boot began reply came = absurd came
 
 -- what is due when a command begins is a refusal
@@ -101,6 +121,10 @@ refusal-kind (Lock user) facts reply is =
     first-kind (due (not facts.present) NoUser) (due (not facts.installed) NotInstalled) reply
     (λ first. due-kind (not facts.present) NoUser reply refl first)
     (λ second. due-kind (not facts.installed) NotInstalled reply refl second) is
+refusal-kind (Protect user given fresh) facts reply is =
+    first-kind (due (not facts.present) NoUser) (due facts.full NoSlot) reply
+    (λ first. due-kind (not facts.present) NoUser reply refl first)
+    (λ second. due-kind facts.full NoSlot reply refl second) is
 refusal-kind Recover facts reply is = due-kind facts.ready Ready reply refl is
 
 -- only an outcome may bring the machine up

@@ -4,5 +4,6 @@ pub mod Durable
 pub mod Folds
 pub mod Records
 pub mod SealedKeys
+pub mod Slots
 pub mod Steps
 pub mod Streams

@@ -7,7 +7,7 @@ use Rattle.journal_model.specs.declared.refusals.Facts.{Facts}
 use Rattle.journal_model.specs.Command.{user_in}
 use Rattle.journal_model.specs.Refusals.{refusal_of}
 use Rattle.journal_model.specs.Users.{Users, fold_changes}
-use Rattle.journal_model.specs.Machine.{Machine, is_present, max_users, verdict_of}
+use Rattle.journal_model.specs.Machine.{Machine, is_present, is_full, max_users, verdict_of}
 
 -- what the map decides, and of the rest what refuses least: no user is being created, the user's key is installed, and
 -- the machine isn't ready
@@ -16,6 +16,7 @@ defined_facts command users = record {
   present = is_present (user_in command) users;
   crowded = nat_le max_users (map.len users);
   installed = true;
+  full = is_full (user_in command) users;
   ready = false;
 }
 

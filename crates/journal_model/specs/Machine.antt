@@ -3,18 +3,19 @@ use Rattle.std.specs.Prelude.{◌≡◌, ◌≢◌, ℕ, ◌+◌, ◌≤◌, Boo
 use Rattle.std.specs.Prelude.{Option, Some, None, IsSomeAnd, IfSome, Contains, nat_le, flat_map}
 use Rattle.std.specs.Ordering.{nat_cmp, eq_by_cmp}
 use Rattle.std.specs.FinMap as map
+use Rattle.tree_model.specs.declared.places.Slot.{Slot}
 use Rattle.tree_model.specs.declared.places.Class.{Class}
 use Rattle.tree_model.specs.declared.places.Class.TheVariants.{De, Ce}
 use Rattle.key_ring.specs.Ring.{Owner, has_owner, with_owner, without_owner}
 use Rattle.journal_model.specs.declared.commands.Actor.{Actor}
 use Rattle.journal_model.specs.declared.commands.Actor.TheVariants.{Boot}
 use Rattle.journal_model.specs.declared.commands.Command.{Command}
-use Rattle.journal_model.specs.declared.commands.Command.TheVariants.{Create, Unlock, Lock, Recover}
+use Rattle.journal_model.specs.declared.commands.Command.TheVariants.{Create, Unlock, Lock, Protect, Recover}
 use Rattle.journal_model.specs.declared.commands.Reply.{Reply}
 use Rattle.journal_model.specs.declared.commands.Reply.TheVariants.{Done, Ended, WrongSecret, TreeFault, StoreFault}
 use Rattle.journal_model.specs.declared.commands.Reply.TheVariants.{RingFault}
 use Rattle.journal_model.specs.declared.entries.Change.{Change}
-use Rattle.journal_model.specs.declared.entries.Change.TheVariants.{Create as Created}
+use Rattle.journal_model.specs.declared.entries.Change.TheVariants.{Create as Created, Add as Added}
 use Rattle.journal_model.specs.declared.entries.Entry.{Entry}
 use Rattle.journal_model.specs.declared.entries.Entry.TheVariants.{Began, Changed, Synced, Installed, Evicted}
 use Rattle.journal_model.specs.declared.entries.Entry.TheVariants.{Stopped, Restarted, Replied}
@@ -24,7 +25,8 @@ use Rattle.journal_model.specs.declared.refusals.Facts.{Facts}
 use Rattle.journal_model.specs.Actor.{actor_cmp}
 use Rattle.journal_model.specs.Command.{actor_of, user_in}
 use Rattle.journal_model.specs.Refusals.{refusal_of}
-use Rattle.journal_model.specs.Users.{Record, Users, HasSecret, fold_changes, owner_of}
+use Rattle.journal_model.specs.Users.{Record, Users, HasSecret, fold_changes, owner_of, slots_of, leave_none}
+use Rattle.journal_model.specs.Users.{next_slot}
 
 -- a command that began: its number, the refusal that was due then, the changes that it made so far, and how many
 -- commands its actor had begun before it in the same boot
@@ -90,6 +92,11 @@ abbrev pub is_unlocked : Option ℕ → List Owner → Bool
 is_unlocked None ring = false
 is_unlocked (Some user) ring = has_owner ring user Ce
 
+-- whether no slot is left for a further secret of the user, if there is one
+abbrev pub is_full : Option ℕ → Users → Bool
+is_full None users = false
+is_full (Some user) users = leave_none (slots_of (map.get users user))
+
 -- the most users that are there or being created
 abbrev pub max_users : ℕ
 max_users = 32
@@ -126,6 +133,7 @@ facts_of machine command = record {
   present = is_present (user_in command) (fold_changes machine.log);
   crowded = is_crowded (fold_changes machine.log) machine.running;
   installed = is_unlocked (user_in command) machine.ring;
+  full = is_full (user_in command) (fold_changes machine.log);
   ready = is_up machine.phase;
 }
 
@@ -190,12 +198,6 @@ abbrev pub IsDurable : Machine → Option ℕ → Type 0
 IsDurable machine None = machine.kept ≡ length machine.log
 IsDurable machine (Some user) = NoChangeOf user (drop machine.kept machine.log)
 
--- the change that a running command may make next, in this boot
-abbrev pub AllowsChange : ℕ → Running → Command → Change → Type 0
-AllowsChange boot running (Create user) change =
-    (running.changes ≡ []) × (change ≡ Created user (record { boot = boot; index = running.index }))
-AllowsChange boot running command change = ⊥
-
 -- a command makes this key of the user usable
 abbrev pub Installs : Command → ℕ → Class → Type 0
 Installs (Create owner) user class = owner ≡ user
@@ -228,6 +230,14 @@ pub record Evidence : Type 1 where
   pub has_key : ℕ → Class → Bool → Type 0
   pub recorded : ℕ → Record → Type 0
 
+-- the change that a running command may make next, in this boot: by what is told of the user
+abbrev pub AllowsChange : Evidence → ℕ → Running → Command → Change → Type 0
+AllowsChange evidence boot running (Create user) change =
+    (running.changes ≡ []) × (change ≡ Created user (record { boot = boot; index = running.index }))
+AllowsChange evidence boot running (Protect user given fresh) change = (running.changes ≡ [])
+    × ((known : Record) × evidence.recorded user known × (change ≡ Added user (next_slot known) fresh))
+AllowsChange evidence boot running command change = ⊥
+
 -- a command did its work, in this boot
 abbrev pub DidWork : Evidence → ℕ → Running → Command → Type 0
 DidWork evidence boot running (Create user) =
@@ -235,6 +245,9 @@ DidWork evidence boot running (Create user) =
     × evidence.has_key user De true × evidence.has_key user Ce true
 DidWork evidence boot running (Unlock user secret) = evidence.has_key user Ce true
 DidWork evidence boot running (Lock user) = evidence.has_key user Ce false
+DidWork evidence boot running (Protect user given fresh) =
+    ((slot : Slot) × (running.changes ≡ Added user slot fresh ∷ []) × evidence.logged (Added user slot fresh))
+    × evidence.durable (Some user)
 DidWork evidence boot running Recover = ⊥
 
 -- a recovery did its work, with so many deletes
@@ -246,15 +259,17 @@ DidRecover evidence count command = ⊥
 abbrev pub LacksSecret : Evidence → ℕ → List ℕ → Type 0
 LacksSecret evidence user secret = (known : Record) × evidence.recorded user known × ¬ (HasSecret known secret)
 
-abbrev pub GaveWrongSecret : Evidence → Command → Type 0
-GaveWrongSecret evidence (Unlock user secret) = LacksSecret evidence user secret
-GaveWrongSecret evidence command = ⊥
+-- and the command made no change
+abbrev pub GaveWrongSecret : Evidence → Running → Command → Type 0
+GaveWrongSecret evidence running (Unlock user secret) = LacksSecret evidence user secret
+GaveWrongSecret evidence running (Protect user given fresh) = (running.changes ≡ []) × LacksSecret evidence user given
+GaveWrongSecret evidence running command = ⊥
 
 -- what came of a command's work, by evidence
 abbrev pub AllowsOutcome : Evidence → ℕ → Running → Reply → Type 0
 AllowsOutcome evidence boot running Done = DidWork evidence boot running running.command
 AllowsOutcome evidence boot running (Ended count) = DidRecover evidence count running.command
-AllowsOutcome evidence boot running WrongSecret = GaveWrongSecret evidence running.command
+AllowsOutcome evidence boot running WrongSecret = GaveWrongSecret evidence running running.command
 AllowsOutcome evidence boot running reply = ⊥
 
 -- a command that wasn't refused may be told that a device failed, or what came of its work
@@ -291,7 +306,8 @@ pub record MayBegin (before : List Entry) (machine : Machine) (number : ℕ) (ac
 abbrev pub MayCome : List Entry → Machine → Entry → Type 0
 MayCome before machine (Began number actor command) = MayBegin before machine number actor command
 MayCome before machine (Changed number change) = IsSomeAnd (map.get machine.running number)
-    (λ running. (running.verdict ≡ None) × AllowsChange machine.boot running running.command change)
+    (λ running. (running.verdict ≡ None)
+    × AllowsChange (evidence_of machine) machine.boot running running.command change)
 MayCome before machine Synced =
     (number : ℕ) × IsSomeAnd (map.get machine.running number) (λ running. running.verdict ≡ None)
 MayCome before machine (Installed user class) = (map.contains_key (fold_changes machine.log) user ≡ true)

@@ -1,13 +1,13 @@
 -- The map of users: who is there, since when, and under which secret each slot is.
-use Rattle.std.specs.Prelude.{◌≡◌, ℕ, List, [], ◌∷◌, Some}
+use Rattle.std.specs.Prelude.{◌≡◌, ℕ, ◌+◌, ◌^◌, ◌||◌, max, Bool, nat_le, List, [], ◌∷◌, length, Option, Some, None}
 use Rattle.std.specs.Ordering.{nat_cmp}
 use Rattle.std.specs.FinMap as map
 use Rattle.tree_model.specs.Order.{slot_cmp}
 use Rattle.tree_model.specs.declared.places.Slot.{Slot}
-use Rattle.tree_model.specs.declared.places.Slot.TheVariants.{Current}
+use Rattle.tree_model.specs.declared.places.Slot.TheVariants.{Current, Cx}
 use Rattle.journal_model.specs.declared.entries.Birth.{Birth}
 use Rattle.journal_model.specs.declared.entries.Change.{Change}
-use Rattle.journal_model.specs.declared.entries.Change.TheVariants.{Create}
+use Rattle.journal_model.specs.declared.entries.Change.TheVariants.{Create, Add}
 
 -- the slots of a user, each with its secret
 abbrev pub Secrets : Type 0
@@ -27,14 +27,50 @@ new_secrets = map.insert map.empty Current []
 abbrev pub no_users : Users
 no_users = map.empty
 
+-- the most slots that a user has
+abbrev pub max_slots : ℕ
+max_slots = 8
+
+-- the number behind a slot's own, from 0
+abbrev pub after_slot : Slot → ℕ
+after_slot Current = 0
+after_slot (Cx n) = n + 1
+
+-- the number behind the greatest of slots, from 0
+abbrev pub next_number : List Slot → ℕ
+next_number [] = 0
+next_number (slot ∷ slots) = max (after_slot slot) (next_number slots)
+
+-- whether slots leave none for a further secret: they are as many as there may be, or no number is greater
+abbrev pub leave_none : List Slot → Bool
+leave_none slots = nat_le max_slots (length slots) || nat_le (2 ^ 32) (next_number slots)
+
+abbrev pub slots_of : Option Record → List Slot
+slots_of None = []
+slots_of (Some known) = map.keys known.secrets
+
+-- the slot that a further secret of the user comes into
+abbrev pub next_slot : Record → Slot
+next_slot known = Cx (next_number (map.keys known.secrets))
+
+-- the record with a slot under a secret
+abbrev pub with_slot : Record → Slot → List ℕ → Record
+with_slot known slot secret = record known { secrets = map.insert known.secrets slot secret }
+
 -- a slot of the user is under the secret
 pub record HasSecret (known : Record) (secret : List ℕ) : Type 0 where
   pub slot : Slot
   pub under : map.get known.secrets slot ≡ Some secret
 
+-- the map with a further slot of a user, who is there
+abbrev pub added : Users → ℕ → Slot → List ℕ → Option Record → Users
+added users user slot secret None = users
+added users user slot secret (Some known) = map.insert users user (with_slot known slot secret)
+
 -- the map after a change
 abbrev pub after_change : Users → Change → Users
 after_change users (Create user birth) = map.insert users user (record { birth = birth; secrets = new_secrets })
+after_change users (Add user slot secret) = added users user slot secret (map.get users user)
 
 -- the map after changes, in order
 abbrev pub folded : Users → List Change → Users
@@ -48,3 +84,4 @@ fold_changes changes = folded no_users changes
 -- the user that a change is of
 abbrev pub owner_of : Change → ℕ
 owner_of (Create user birth) = user
+owner_of (Add user slot secret) = user

@@ -61,11 +61,24 @@ impl ExactOrd for Actor {
 #[derive(Drop)]
 pub enum Command {
     /// Makes a user's two keys, under the empty secret.
-    Create { user: u32 },
+    Create {
+        user: u32,
+    },
     /// Opens a user's credential key with a secret, and puts it into the key ring.
-    Unlock { user: u32, secret: Secret },
+    Unlock {
+        user: u32,
+        secret: Secret,
+    },
     /// Takes a user's credential key out of the key ring.
-    Lock { user: u32 },
+    Lock {
+        user: u32,
+    },
+    /// Opens a user's credential key with a secret that is known, and stores it in a slot of its own under a fresh one.
+    Protect {
+        user: u32,
+        known: Secret,
+        fresh: Secret,
+    },
     /// Brings the machine up after a restart.
     Recover,
 }
@@ -77,7 +90,7 @@ impl Command {
     {
         match self {
             Command::Create { user } | Command::Lock { user } => Actor::User(*user),
-            Command::Unlock { user, .. } => Actor::User(*user),
+            Command::Unlock { user, .. } | Command::Protect { user, .. } => Actor::User(*user),
             Command::Recover => Actor::Boot,
         }
     }
@@ -103,6 +116,11 @@ impl Command {
                 secret: secret.duplicate(alloc)?,
             },
             Command::Lock { user } => Command::Lock { user: *user },
+            Command::Protect { user, known, fresh } => Command::Protect {
+                user: *user,
+                known: known.duplicate(alloc)?,
+                fresh: fresh.duplicate(alloc)?,
+            },
             Command::Recover => Command::Recover,
         })
     }
@@ -123,6 +141,8 @@ pub enum Reply {
     NoUser,
     /// The user's credential key was not in the key ring when the command began.
     NotInstalled,
+    /// No slot was left for a further secret of the user when the command began.
+    NoSlot,
     /// The user has no slot under the secret that was given.
     WrongSecret,
     /// The machine was ready when the recovery began.

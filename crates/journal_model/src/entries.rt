@@ -1,8 +1,9 @@
 ghost use Rattle.std.specs.Prelude.{◌≡◌, IfOk};
 
 use crate::commands::{Actor, Command, Reply};
+use crate::secrets::Secret;
 use std::alloc::Global;
-use tree_model::{Class, Cut, NoMemory};
+use tree_model::{Class, Cut, NoMemory, Slot};
 
 /// When a user was created: the boot, and the number of commands that the user's actor had begun in it before.
 #[derive(Clone, Copy, Debug, PartialEq, Eq)]
@@ -15,20 +16,34 @@ pub struct Birth {
 #[derive(Drop)]
 pub enum Change {
     /// The user is there from now on, with the current slot under the empty secret.
-    Create { user: u32, birth: Birth },
+    Create {
+        user: u32,
+        birth: Birth,
+    },
+    /// The user has one more slot from now on, under this secret.
+    Add {
+        user: u32,
+        slot: Slot,
+        secret: Secret,
+    },
 }
 
 impl Change {
     /// The same change in memory of its own.
-    pub fn duplicate(&self, _alloc: Global) -> Result<Change, NoMemory>
+    pub fn duplicate(&self, alloc: Global) -> Result<Change, NoMemory>
         ensures { IfOk result (λ copied. copied ≡ self.now) }
     {
-        match self {
-            Change::Create { user, birth } => Ok(Change::Create {
+        Ok(match self {
+            Change::Create { user, birth } => Change::Create {
                 user: *user,
                 birth: *birth,
-            }),
-        }
+            },
+            Change::Add { user, slot, secret } => Change::Add {
+                user: *user,
+                slot: *slot,
+                secret: secret.duplicate(alloc)?,
+            },
+        })
     }
 }
 

@@ -19,7 +19,7 @@ pub use hashes::{app_id, prefixed_hash, wrap_key};
 pub use journal::Journal;
 pub use made::{boot_seed, made_bytes, made_discardable, made_key, made_nonce};
 pub use phase::Phase;
-pub use refusals::{Facts, MAX_USERS, refusal};
+pub use refusals::{Facts, MAX_SLOTS, MAX_USERS, leaves_none, next_after, refusal};
 pub use secrets::Secret;
 pub use user_map::{UserMap, defined_reply, fold};
 

@@ -1,16 +1,18 @@
-ghost use Rattle.std.specs.Prelude.{◌≡◌, option_map, option_copied, IfOk, OnOk};
+ghost use Rattle.std.specs.Prelude.{◌≡◌, option_map, option_copied, IfOk, IfErr, OnOk};
 ghost use Rattle.std.specs.FinMap.{keys, entries, get};
-ghost use Rattle.journal_model.specs.declared.entries.Change.TheVariants.{Create as Created};
+ghost use Rattle.sorted_map.specs.Rows.{keys as keys_of_rows, IsSorted, StandsAt, BelongsAt};
+ghost use Rattle.tree_model.specs.Order.{slot_cmp};
+ghost use Rattle.journal_model.specs.declared.entries.Change.TheVariants.{Create as Created, Add as Added};
 ghost use Rattle.journal_model.specs.Command.{user_in};
 ghost use Rattle.journal_model.specs.DefinedReply.{defined_reply_of};
 ghost use Rattle.journal_model.specs.Log.{log_after};
-ghost use Rattle.journal_model.specs.Machine.{is_present, log_of, map_of};
-ghost use Rattle.journal_model.specs.Users.{no_users, new_secrets, after_change};
+ghost use Rattle.journal_model.specs.Machine.{is_present, is_full, log_of, map_of};
+ghost use Rattle.journal_model.specs.Users.{no_users, new_secrets, with_slot, after_change};
 
 use crate::commands::{Command, Reply};
 use crate::entries::{Birth, Change, Entry};
 use crate::journal::Journal;
-use crate::refusals::{Facts, MAX_USERS, refusal};
+use crate::refusals::{Facts, MAX_USERS, leaves_none, next_after, refusal};
 use crate::secrets::Secret;
 use sorted_map::SortedMap;
 use std::alloc::Global;
@@ -49,6 +51,28 @@ impl UserRecord {
         slots.push((Slot::Current, Secret::empty(alloc)))?;
         Ok(UserRecord { birth, slots })
     }
+
+    /// The slot is under this secret from now on.
+    fn put(&mut self, slot: Slot, secret: Secret) -> Result<(), NoMemory>
+        ensures { OnOk result (self.new ≡ with_slot self.old slot secret) }
+    {
+        match place_of(self.slots.as_slice(), slot) {
+            Ok(at) => {
+                self.slots[at] = (slot, secret);
+                Ok(())
+            }
+            Err(at) => Ok(self.slots.insert(at, (slot, secret))?),
+        }
+    }
+}
+
+/// Where the slot stands among rows in their order, or where it belongs.
+fn place_of(rows: &[(Slot, Secret)], slot: Slot) -> Result<usize, usize>
+    requires { IsSorted slot_cmp rows.now }
+    ensures there { IfOk result (StandsAt slot_cmp slot (keys_of_rows rows.now)) }
+    ensures absent { IfErr result (BelongsAt slot_cmp slot (keys_of_rows rows.now)) }
+{
+    rows.binary_search_by_key(&slot, |row| row.0)
 }
 
 /// The users that are there, each with its birth and its slots' secrets.
@@ -109,6 +133,7 @@ impl UserMap {
     {
         match change {
             Change::Create { user, birth } => self.create(alloc, *user, *birth),
+            Change::Add { user, slot, secret } => self.add(*user, *slot, secret.duplicate(alloc)?),
         }
     }
 
@@ -117,6 +142,18 @@ impl UserMap {
         ensures { OnOk result (self.new ≡ after_change self.old (Created user birth)) }
     {
         self.records.insert(user, UserRecord::new(alloc, birth)?)?;
+        Ok(())
+    }
+
+    /// The user, where there is one, has a further slot under this secret.
+    fn add(&mut self, user: u32, slot: Slot, secret: Secret) -> Result<(), NoMemory>
+        ensures { OnOk result (self.new ≡ after_change self.old (Added user slot secret)) }
+    {
+        let Some(mut known) = self.records.remove(user) else {
+            return Ok(());
+        };
+        known.put(slot, secret)?;
+        self.records.insert(user, known)?;
         Ok(())
     }
 }
@@ -157,7 +194,8 @@ fn follow(alloc: Global, log: &mut Vec<Change>, entry: &Entry) -> Result<(), NoM
 }
 
 /// The refusal that the map of users alone decides: for a create, that the user is there, or that as many users are
-/// there as there may be; and for other commands of a user, that the user isn't there. A recovery has none.
+/// there as there may be; for other commands of a user, that the user isn't there; and for a protect, that no slot is
+/// left. A recovery has none.
 pub fn defined_reply(command: &Command, map: &UserMap) -> Option<Reply>
     ensures { result ≡ defined_reply_of command.now map.now }
 {
@@ -165,9 +203,27 @@ pub fn defined_reply(command: &Command, map: &UserMap) -> Option<Reply>
         present: is_present(command, map),
         crowded: MAX_USERS <= map.users().len(),
         installed: true,
+        full: is_full(command, map),
         ready: false,
     };
     refusal(command, facts)
+}
+
+/// Whether no slot is left for a further secret of the user whom the command is for.
+fn is_full(command: &Command, map: &UserMap) -> bool
+    ensures { result ≡ is_full (user_in command.now) map.now }
+{
+    let Some(user) = command.user() else {
+        return false;
+    };
+    let Some(slots) = map.slots(user) else {
+        return false;
+    };
+    let mut next = 0;
+    for row in slots {
+        next = next_after(next, row.0);
+    }
+    leaves_none(slots.len(), next)
 }
 
 /// Whether the user whom the command is for is there.
@@ -274,6 +330,131 @@ mod tests {
         Ok(())
     }
 
+    /// User 10 is created, and has a further slot of each of these numbers, under a secret of the one byte beside it.
+    fn slotted_journal(alloc: Global, further: &[(u32, u8)]) -> Result<Journal, NoMemory> {
+        let mut journal = Journal::new(alloc);
+        journal.reserve()?;
+        journal.push(creation(10, Birth { boot: 0, index: 0 }));
+        for (number, byte) in further {
+            journal.reserve()?;
+            journal.push(addition(alloc, *number, *byte)?);
+        }
+        Ok(journal)
+    }
+
+    /// The change that gives user 10 the slot of this number, under a secret of this one byte.
+    fn addition(alloc: Global, number: u32, byte: u8) -> Result<Entry, NoMemory> {
+        let secret = secret_of(alloc, &[byte])?;
+        let slot = Slot::Cx(number);
+        let user = 10;
+        Ok(Entry::Changed {
+            number: 0,
+            change: Change::Add { user, slot, secret },
+        })
+    }
+
+    /// The secret of a few bytes.
+    fn secret_of(alloc: Global, bytes: &[u8]) -> Result<Secret, NoMemory> {
+        let secret = Secret::new(Bytes::copy(alloc, bytes)?);
+        Ok(secret.unwrap_or(Secret::empty(alloc)))
+    }
+
+    /// What the map that the journal makes refuses a protect of this user with.
+    fn refusal_of_protect(
+        alloc: Global,
+        journal: &Journal,
+        user: u32,
+    ) -> Result<Option<Reply>, NoMemory> {
+        let command = Command::Protect {
+            user,
+            known: Secret::empty(alloc),
+            fresh: Secret::empty(alloc),
+        };
+        Ok(defined_reply(&command, &fold(alloc, journal)?))
+    }
+
+    #[test]
+    fn refuses_a_slot_too_many(rt: HostRuntime) -> Result<(), Fail> {
+        let alloc = rt.alloc();
+        let seven = [(0, 1), (1, 1), (2, 1), (3, 1), (4, 1), (5, 1), (6, 1)];
+        for (further, user, reply) in [
+            (seven.as_slice(), 10, Some(Reply::NoSlot)),
+            (&seven, 11, Some(Reply::NoUser)),
+            (&seven[..6], 10, None),
+            (&[(u32::MAX, 1)], 10, Some(Reply::NoSlot)),
+            (&[(u32::MAX - 1, 1)], 10, None),
+            (&[], 10, None),
+        ] {
+            let journal = slotted_journal(alloc, further)?;
+            assert_eq!(rt;
+                refusal_of_protect(alloc, &journal, user)?,
+                reply,
+                "user {user} with {further:?}"
+            );
+        }
+        Ok(())
+    }
+
+    /// Whether these are the slots of user 10, each with its secret.
+    fn has_slots(map: &UserMap, wanted: &[(Slot, &[u8])]) -> bool {
+        let slots = map.slots(10).unwrap_or(&[]);
+        let mut same = slots.len() == wanted.len();
+        for ((slot, secret), (other, bytes)) in slots.iter().zip(wanted) {
+            same = same && slot == other && secret.as_slice() == *bytes;
+        }
+        same
+    }
+
+    #[test]
+    fn keeps_slots_in_order(rt: HostRuntime) -> Result<(), Fail> {
+        let alloc = rt.alloc();
+        let journal = slotted_journal(alloc, &[(1, 6), (0, 5), (1, 7)])?;
+        let wanted: [(Slot, &[u8]); 3] = [
+            (Slot::Current, &[]),
+            (Slot::Cx(0), &[5]),
+            (Slot::Cx(1), &[7]),
+        ];
+        assert!(rt; has_slots(&fold(alloc, &journal)?, &wanted));
+        Ok(())
+    }
+
+    #[test]
+    fn cuts_an_added_slot(rt: HostRuntime) -> Result<(), Fail> {
+        let alloc = rt.alloc();
+        let mut journal = slotted_journal(alloc, &[(0, 5), (1, 7)])?;
+        journal.reserve()?;
+        journal.push(Entry::Stopped { kept: 2 });
+        let wanted: [(Slot, &[u8]); 2] = [(Slot::Current, &[]), (Slot::Cx(0), &[5])];
+        assert!(rt; has_slots(&fold(alloc, &journal)?, &wanted));
+        Ok(())
+    }
+
+    #[test]
+    fn adds_nothing_to_no_user(rt: HostRuntime) -> Result<(), Fail> {
+        let alloc = rt.alloc();
+        let mut journal = Journal::new(alloc);
+        journal.reserve()?;
+        journal.push(addition(alloc, 0, 5)?);
+        assert!(rt; fold(alloc, &journal)?.users().is_empty());
+        Ok(())
+    }
+
+    #[test]
+    fn copies_a_protect(rt: HostRuntime) -> Result<(), Fail> {
+        let alloc = rt.alloc();
+        let command = Command::Protect {
+            user: 10,
+            known: Secret::empty(alloc),
+            fresh: secret_of(alloc, b"se")?,
+        };
+        let copied = command.duplicate(alloc)?;
+        assert_eq!(rt; copied.actor(), Actor::User(10));
+        assert!(rt;
+            matches!(&copied, Command::Protect { user: 10, fresh, .. } if fresh.as_slice() == b"se".as_slice())
+        );
+        Ok(())
+    }
+
     #[test]
     fn bounds_and_copies_parts(rt: HostRuntime) -> Result<(), Fail> {
         let alloc = rt.alloc();
@@ -298,11 +479,10 @@ mod tests {
         }
 
         let birth = Birth { boot: 2, index: 3 };
-        let Change::Create {
-            user,
-            birth: copied,
-        } = Change::Create { user: 10, birth }.duplicate(alloc)?;
-        assert_eq!(rt; (user, copied), (10, birth));
+        let created = Change::Create { user: 10, birth }.duplicate(alloc)?;
+        assert!(rt;
+            matches!(&created, Change::Create { user: 10, birth: copied } if *copied == birth)
+        );
 
         let mut fills = Vec::new(alloc);
         fills.push(Fill::Same)?;

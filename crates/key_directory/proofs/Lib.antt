@@ -1,3 +1,4 @@
+pub mod Adding
 pub mod Apart
 pub mod Births
 pub mod Fitting
@@ -7,3 +8,4 @@ pub mod Opening
 pub mod Present
 pub mod Storing
 pub mod Tested
+pub mod Tried

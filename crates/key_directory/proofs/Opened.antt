@@ -1,9 +1,11 @@
 -- What a user's slot opens to with a secret, and that it goes on opening to that while its entry stays.
-use Rattle.std.proofs.Common.{◌≡◌, ◌≢◌, ℕ, Bool, true, false, List, [], ◌∷◌, refl, sym, ap, ◌∙◌, subst}
+use Rattle.std.proofs.Common.{◌≡◌, ◌≢◌, ◌⊎◌, inl, inr, ℕ, Bool, true, false, List, [], ◌∷◌, refl, sym, ap, ◌∙◌}
+use Rattle.std.proofs.Common.{subst}
 use Rattle.std.specs.Prelude.{Option, Some, None, is_some, IsSome}
-use Rattle.std.proofs.lemmas.Option.{none-some}
+use Rattle.std.proofs.lemmas.Option.{none-some, same_Some}
 use Rattle.std.specs.FinMap as map
 use Rattle.tree_model.specs.declared.blobs.Blob.{Blob}
+use Rattle.tree_model.specs.declared.files.FileName.TheVariants.{Discard}
 use Rattle.tree_model.specs.declared.places.Class.TheVariants.{Ce as ForCe}
 use Rattle.tree_model.specs.declared.sites.Site.{Site}
 use Rattle.tree_model.specs.declared.sites.Site.TheVariants.{Ce}
@@ -14,12 +16,13 @@ use Rattle.journal_model.specs.Hashes.{app_id_of}
 use Rattle.journal_model.specs.Made.{key_of}
 use Rattle.keystore_model.specs.declared.entry.StoreEntry.{StoreEntry}
 use Rattle.keystore_model.specs.Store.{entry_of}
+use Rattle.keystore_model.proofs.Stores.{decide-bytes}
 use Rattle.key_directory.specs.declared.shapes.ShapeFault.{ShapeFault}
-use Rattle.key_directory.specs.Opened.{HasNoAdditions, fits_secret, FitsShape}
+use Rattle.key_directory.specs.Opened.{WasGiven, fits_secret, FitsShape}
 use Rattle.key_directory.specs.Opened.{LawOfSlots, LawOfWrongSecrets, LawOfKeptOpening}
-use Rattle.key_directory.specs.Opens.{under_entry, opens_shape, opens}
+use Rattle.key_directory.specs.Opens.{bytes_at, under_entry, under_secret, opens_shape, opens}
 use Rattle.key_directory.specs.Shape.{shape_unless, form, first_fault, tests}
-use Rattle.key_directory.specs.Vaults.{Attempts, NoChanceMatch, IsMade, Vault, NamesOwn, tag_at, OpensAs, OpensAt}
+use Rattle.key_directory.specs.Vaults.{sealed_in, NoChanceMatch, Vault, NamesOwn, tag_at, OpensAs, OpensAt}
 
 -- an entry that is there stays the same where it is kept
 same-entry : (before after : Option StoreEntry) → IsSome before
@@ -73,15 +76,20 @@ module _ (entries : List StoreEntry) (level : ℕ) (discard sealed : List ℕ) w
   misfit-opens None (Some blob) upgraded has_new [] misfit = cc
   misfit-opens None (Some blob) upgraded has_new (byte ∷ bytes) misfit = refl
 
-  -- a directory that opens with the empty secret opens with no other
-  opens-alike : (fault : Option ShapeFault) (name : Option Blob) (upgraded has_new : Bool) (given key opened : List ℕ)
-      → opens_shape entries level discard sealed (shape_unless fault (form name upgraded has_new)) [] ≡ Some opened
+  -- a directory that opens with two secrets opens with the empty one alone, or with each under its wrapping key
+  opens-two : (fault : Option ShapeFault) (name : Option Blob) (upgraded has_new : Bool)
+      (secret opened given key : List ℕ)
+      → opens_shape entries level discard sealed (shape_unless fault (form name upgraded has_new)) secret ≡ Some opened
       → opens_shape entries level discard sealed (shape_unless fault (form name upgraded has_new)) given ≡ Some key
-      → key ≡ opened
-  opens-alike (Some fault) name upgraded has_new given key opened is also = cc
-  opens-alike None None upgraded has_new given key opened is also = cc
-  opens-alike None (Some blob) upgraded has_new [] key opened is also = cc
-  opens-alike None (Some blob) upgraded has_new (byte ∷ bytes) key opened is also = cc
+      → (secret ≡ given) ⊎ ((secret ≢ []) × (given ≢ []) × (under_secret discard sealed given ≡ Some key))
+  opens-two (Some fault) name upgraded has_new secret opened given key is also = cc
+  opens-two None None upgraded has_new [] opened given key is also = cc
+  opens-two None None upgraded has_new (byte ∷ bytes) opened [] key is also = cc
+  opens-two None None upgraded has_new (byte ∷ bytes) opened (first ∷ rest) key is also =
+      inr (λ e. cc, λ e. cc, also)
+  opens-two None (Some blob) upgraded has_new [] opened [] key is also = inl refl
+  opens-two None (Some blob) upgraded has_new [] opened (first ∷ rest) key is also = cc
+  opens-two None (Some blob) upgraded has_new (byte ∷ bytes) opened given key is also = cc
 
 fits-shape : (fault : Option ShapeFault) (name : Option Blob) (upgraded has_new : Bool) (given : List ℕ)
     → fault ≡ None → fits_secret name given ≡ true
@@ -92,23 +100,31 @@ fits-shape None None upgraded has_new (byte ∷ bytes) passes fits = tt
 fits-shape None (Some blob) upgraded has_new [] passes fits = tt
 fits-shape None (Some blob) upgraded has_new (byte ∷ bytes) passes fits = cc
 
--- no tag matches by chance where nothing was added
-none-matches : (attempts : Attempts) → HasNoAdditions attempts → NoChanceMatch attempts
-none-matches attempts none = record { none = λ added secret has gave differ. absurd (none added has) }
+-- a secret that was given opens only a directory that is under it, where no tag matched by chance
+given-under : (vault : Vault) (user : ℕ) (site : Site) (files : Files) (secret given right key : List ℕ)
+    → NoChanceMatch (vault.attempts user) → WasGiven (vault.attempts user) given
+    → OpensAs vault user site files secret right
+    → opens vault.entries vault.level (held_in files) given ≡ Some key → secret ≡ given
+given-under vault user site files secret given right key match gave is opens_to =
+    elim (opens-two vault.entries vault.level _ _ _ (blob_in (held_in files)) _ _ secret is.opened given key
+    is.opens_to opens_to) [
+      | inl same ↦ same
+      | inr under ↦ elim (decide-bytes secret given) [
+        | inl same ↦ same
+        | inr differ ↦ let made = is.made match under.0 in absurd (none-some key
+            (sym (match.none made.added given made.has (gave under.1) (λ e. differ (sym (e ∙ made.under))))
+            ∙ ap (λ found. under_secret (bytes_at found) (sealed_in made.added) given) (sym made.discard)
+            ∙ ap (λ found. under_secret (bytes_at (held_in files Discard)) (bytes_at found) given) (sym made.sealed)
+            ∙ under.2))
+      ]
+    ]
 
--- where nothing was added a directory opens under the empty secret alone
-under-empty : (attempts : Attempts) (files : Files) (secret : List ℕ) → HasNoAdditions attempts
-    → (NoChanceMatch attempts → secret ≢ [] → IsMade attempts files secret) → secret ≡ []
-under-empty attempts files [] none made = refl
-under-empty attempts files (byte ∷ bytes) none made =
-    let is = made (none-matches attempts none) (λ e. cc) in absurd (none is.added is.has)
-
--- a directory that is there opens with a secret
+-- a directory that is there opens with the recorded secret
 recorded-opens : (vault : Vault) (user : ℕ) (site : Site) (files : Files) (recorded : Option (List ℕ)) (key : List ℕ)
     → OpensAt vault user site (Some files) recorded key
-    → (secret : List ℕ) × OpensAs vault user site files secret key
+    → (secret : List ℕ) × (recorded ≡ Some secret) × OpensAs vault user site files secret key
 recorded-opens vault user site files None key opens = absurd opens
-recorded-opens vault user site files (Some secret) key opens = (secret, opens)
+recorded-opens vault user site files (Some secret) key opens = (secret, refl, opens)
 
 pub slots-tell : LawOfSlots
 slots-tell vault user part known slot files given stands there =
@@ -117,7 +133,10 @@ slots-tell vault user part known slot files given stands there =
     let recorded = recorded-opens vault user (Ce slot) files (map.get known.secrets slot) right_key
     (subst (λ found. OpensAt vault user (Ce slot) found (map.get known.secrets slot) right_key) there
     (stands.opens (Ce slot))) in
-    let is = recorded.1 in
+    let is = recorded.2 in
+    let same = λ (match : NoChanceMatch (vault.attempts user)) (gave : WasGiven (vault.attempts user) given)
+    (key : List ℕ) (opens_to : opens vault.entries vault.level (held_in files) given ≡ Some key).
+    given-under vault user (Ce slot) files recorded.0 given right_key key match gave is opens_to in
     let live = λ (blob : Blob) (names : blob_in (held_in files) ≡ Some blob).
     let has = own blob names in ap is_some has.live in record {
       live = live;
@@ -128,11 +147,10 @@ slots-tell vault user part known slot files given stands there =
       fit = λ fits. fits-shape _ (blob_in (held_in files)) _ _ given
           (opens-passes vault.entries vault.level _ _ _ (blob_in (held_in files)) _ _ recorded.0 is.opened is.opens_to)
           fits;
-      right = λ none key opens_to.
-          opens-alike vault.entries vault.level _ _ _ (blob_in (held_in files)) _ _ given key is.opened
-          (subst (λ secret. opens vault.entries vault.level (held_in files) secret ≡ Some is.opened)
-          (under-empty (vault.attempts user) files recorded.0 none is.made) is.opens_to) opens_to
-          ∙ is.right (none-matches (vault.attempts user) none);
+      under = λ match gave key opens_to. recorded.1 ∙ ap Some (same match gave key opens_to);
+      right = λ match gave key opens_to. same_Some key is.opened (sym opens_to
+          ∙ ap (opens vault.entries vault.level (held_in files)) (sym (same match gave key opens_to)) ∙ is.opens_to)
+          ∙ is.right match;
     }
 
 -- a directory that is under a secret opens with it

@@ -1,6 +1,7 @@
 -- What the credential directories of a user who is there open to with a secret, and what tells whether one may open.
-use Rattle.std.specs.Prelude.{◌≡◌, ℕ, Bool, true, false, List, [], ◌∷◌, length, Option, Some, None, Result, Ok}
+use Rattle.std.specs.Prelude.{◌≡◌, ◌≢◌, ℕ, Bool, true, false, List, [], ◌∷◌, length, Option, Some, None, Result, Ok}
 use Rattle.std.specs.Prelude.{Contains}
+use Rattle.std.specs.FinMap as maps
 use Rattle.tree_model.specs.declared.blobs.Blob.{Blob}
 use Rattle.tree_model.specs.declared.files.FileName.TheVariants.{EncryptedKey, Discard}
 use Rattle.tree_model.specs.declared.places.Class.TheVariants.{Ce as ForCe}
@@ -25,16 +26,16 @@ use Rattle.key_directory.specs.declared.shapes.DirShape.TheVariants.{Bound, Secr
 use Rattle.key_directory.specs.declared.shapes.ShapeFault.{ShapeFault}
 use Rattle.key_directory.specs.Opens.{bytes_at, opens}
 use Rattle.key_directory.specs.Shape.{shape_of}
-use Rattle.key_directory.specs.Vaults.{Vault, Attempts, Addition, SealedStands, KeepsEntry}
+use Rattle.key_directory.specs.Vaults.{Vault, Attempts, NoChanceMatch, SealedStands, KeepsEntry}
 
 -- every entry is at the store's level
 abbrev pub AreCurrent : Vault → Type 0
 AreCurrent vault =
     (blob : Blob) (entry : StoreEntry) → entry_of vault.entries blob ≡ Some entry → entry.level ≡ vault.level
 
--- no directory was made under a secret that isn't empty
-abbrev pub HasNoAdditions : Attempts → Type 0
-HasNoAdditions attempts = (added : Addition) → ¬ (Contains attempts.additions added)
+-- the secret is the empty one or among those that were given
+abbrev pub WasGiven : Attempts → List ℕ → Type 0
+WasGiven attempts secret = secret ≢ [] → Contains attempts.secrets secret
 
 -- a directory opens with the secret to this key, or to nothing, and what it names has an entry
 pub record OpensTo (vault : Vault) (files : Files) (secret : List ℕ) (key : Option (List ℕ)) : Type 0 where
@@ -90,20 +91,23 @@ pub record LawOfFitting : Type 0 where
       ≡ unsealed_key (wrap_key_of (app_id_of (discard_at files) (byte ∷ bytes))) (sealed_at files)
 
 -- of the directory in a slot of a user who is there: what it names has an entry; it opens to nothing with a secret
--- that doesn't fit what it names; one that fits what it names fits its shape; and what it opens to is the user's key,
--- where nothing was added under a secret
-pub record SlotTells (vault : Vault) (user : ℕ) (known : Record) (files : Files) (given : List ℕ) : Type 0 where
+-- that doesn't fit what it names; one that fits what it names fits its shape; and where no tag matched by chance, a
+-- secret that was given opens it only where the slot is under it, and to the user's key
+pub record SlotTells (vault : Vault) (user : ℕ) (known : Record) (slot : Slot) (files : Files) (given : List ℕ) :
+    Type 0 where
   pub live : (blob : Blob) → named_at (Some files) ≡ Some blob → IsLive vault.entries blob
   pub misfit : fits_secret (named_at (Some files)) given ≡ false → OpensTo vault files given None
   pub fit : fits_secret (named_at (Some files)) given ≡ true → FitsFiles files given
-  pub right : HasNoAdditions (vault.attempts user) → (key : List ℕ)
+  pub under : NoChanceMatch (vault.attempts user) → WasGiven (vault.attempts user) given → (key : List ℕ)
+      → opens vault.entries vault.level (held_in files) given ≡ Some key → maps.get known.secrets slot ≡ Some given
+  pub right : NoChanceMatch (vault.attempts user) → WasGiven (vault.attempts user) given → (key : List ℕ)
       → opens vault.entries vault.level (held_in files) given ≡ Some key
       → key ≡ key_of vault.seed ForCe user known.birth
 
 abbrev pub LawOfSlots : Type 0
 LawOfSlots = (vault : Vault) (user : ℕ) (part : Part) (known : Record) (slot : Slot) (files : Files) (given : List ℕ)
     → SealedStands vault user (standing part) known → part (Ce slot) ≡ Some files
-    → SlotTells vault user known files given
+    → SlotTells vault user known slot files given
 
 -- where no directory of the user opens with the secret, none of the user's slots is under it
 abbrev pub LawOfWrongSecrets : Type 0

@@ -3,22 +3,24 @@
 use Rattle.std.specs.Prelude.{◌≡◌, ◌≤◌, ℕ, List, [], ◌∷◌, length, take, Option, Some, None}
 use Rattle.tree_model.specs.declared.blobs.Blob.{Blob}
 use Rattle.tree_model.specs.declared.places.Class.TheVariants.{De as ForDe, Ce as ForCe}
+use Rattle.tree_model.specs.declared.places.Slot.{Slot}
 use Rattle.tree_model.specs.declared.places.Slot.TheVariants.{Current}
 use Rattle.tree_model.specs.declared.sites.Site.{Site}
-use Rattle.tree_model.specs.declared.sites.Site.TheVariants.{De, Ce}
+use Rattle.tree_model.specs.declared.sites.Site.TheVariants.{De, Ce, Temp}
 use Rattle.tree_model.specs.Dir.{Files}
 use Rattle.tree_model.specs.declared.files.FileName.TheVariants.{Version, EncryptedKey, Blob as BlobFile, BlobUpgraded}
 use Rattle.tree_model.specs.declared.files.FileName.TheVariants.{BlobNew, Discard, Stretching, Salt}
 use Rattle.tree_model.specs.Disk.{Disk, IsImage}
 use Rattle.tree_model.specs.Held.{Held, held_in}
-use Rattle.tree_model.specs.Parts.{Part, part_of}
+use Rattle.tree_model.specs.declared.sites.LocalOp.TheVariants.{RenameDir}
+use Rattle.tree_model.specs.Parts.{Part, part_of, standing, after_local}
 use Rattle.tree_model.specs.Tree.{Tree}
 use Rattle.journal_model.specs.declared.entries.Birth.{Birth}
 use Rattle.journal_model.specs.declared.entries.Change.{Change}
 use Rattle.journal_model.specs.Hashes.{app_id_of, wrap_key_of}
 use Rattle.journal_model.specs.Made.{key_of}
 use Rattle.seal_model.specs.Sealed.{sealed_text}
-use Rattle.journal_model.specs.Users.{Users, new_secrets}
+use Rattle.journal_model.specs.Users.{Record, Users, new_secrets, with_slot}
 use Rattle.keystore_model.specs.declared.entry.StoreEntry.{StoreEntry}
 use Rattle.keystore_model.specs.Store.{entry_of}
 use Rattle.user_world.specs.Images.{ImagesStand}
@@ -26,7 +28,7 @@ use Rattle.user_world.specs.Meaning.{StandsFor}
 use Rattle.key_directory.specs.Opens.{opens}
 use Rattle.key_directory.specs.Shape.{version_bytes}
 use Rattle.tree_model.specs.Named.{named_at, PartNames, IsNamed}
-use Rattle.key_directory.specs.Vaults.{Vault, tag_at, NamesOwn, SealedStands, sealed, Later, KeepsEntry}
+use Rattle.key_directory.specs.Vaults.{Vault, tag_at, NamesOwn, OpensAs, SealedStands, sealed, Later, KeepsEntry}
 
 -- two standing directories are the same
 pub record AreOne (user other : ℕ) (site at : Site) : Type 0 where
@@ -89,3 +91,21 @@ pub record OpenBoth (vault : Vault) (user : ℕ) (birth : Birth) (de ce : Files)
 abbrev pub LawOfBirths : Type 0
 LawOfBirths = (vault : Vault) (user : ℕ) (birth : Birth) (de ce : Files) → OpenBoth vault user birth de ce
     → SealedStands vault user (two_directories de ce) (record { birth = birth; secrets = new_secrets })
+
+-- a directory in the temporary place is a further one for a user who is there: the slot is free; it opens with the
+-- secret to the user's key, and names an entry of its own, which no other directory of the user names
+pub record IsFurther (vault : Vault) (user : ℕ) (part : Part) (known : Record) (slot : Slot) (secret : List ℕ) :
+    Type 0 where
+  pub files : Files
+  pub there : part Temp ≡ Some files
+  pub free : part (Ce slot) ≡ None
+  pub opens : OpensAs vault user (Ce slot) files secret (key_of vault.seed ForCe user known.birth)
+  pub own : NamesOwn vault (tag_at user (Ce slot)) (Some files)
+  pub differ : (site : Site) (blob : Blob) → named_at (standing part site) ≡ Some blob
+      → named_at (Some files) ≡ Some blob → ⊥
+
+-- once it is renamed into the slot, it stands there under the secret
+abbrev pub LawOfAdding : Type 0
+LawOfAdding = (vault : Vault) (user : ℕ) (part : Part) (known : Record) (slot : Slot) (secret : List ℕ)
+    → SealedStands vault user (standing part) known → IsFurther vault user part known slot secret
+    → SealedStands vault user (standing (after_local part (RenameDir Temp (Ce slot)))) (with_slot known slot secret)

@@ -70,9 +70,12 @@ abbrev pub NamesOwn : Vault → Tag → Option Files → Type 0
 NamesOwn vault tag found = (blob : Blob) → named_at found ≡ Some blob → HasEntry vault tag blob
 
 -- that the key is the right one is said of a device key, and of a credential key where no tag matched by chance
+abbrev pub SureOf : Attempts → Class → Type 0
+SureOf attempts ForDe = Unit {0}
+SureOf attempts ForCe = NoChanceMatch attempts
+
 abbrev pub SureAt : Attempts → Site → Type 0
-SureAt attempts De = Unit {0}
-SureAt attempts site = NoChanceMatch attempts
+SureAt attempts site = SureOf attempts (class_of site)
 
 -- the directory is as it was made under the secret
 pub record IsMade (attempts : Attempts) (files : Files) (secret : List ℕ) : Type 0 where

@@ -1,5 +1,6 @@
 ghost use Rattle.key_directory.specs.Opened.{LawOfFitting, LawOfSlots, LawOfWrongSecrets, LawOfKeptOpening};
-ghost use Rattle.key_directory.specs.VaultLaws.{StoredOpens, LawOfBirths, LawOfLater, LawOfNames};
+ghost use Rattle.key_directory.specs.Tried.{LawOfTried, LawOfOneSecret};
+ghost use Rattle.key_directory.specs.VaultLaws.{StoredOpens, LawOfBirths, LawOfAdding, LawOfLater, LawOfNames};
 
 /// A directory as it is stored opens with its secret to its key.
 pub fn law_of_storing()
@@ -20,6 +21,21 @@ pub fn law_of_names()
 /// for a new user.
 pub fn law_of_births()
     ensures { LawOfBirths }
+{}
+
+/// A directory that opens with a secret to the user's key, renamed into a free slot, stands there under the secret.
+pub fn law_of_adding()
+    ensures { LawOfAdding }
+{}
+
+/// What a journal tells of secrets grows with its entries.
+pub fn law_of_tried()
+    ensures { LawOfTried }
+{}
+
+/// Where a journal names at most one secret of a user that isn't empty, no tag matched by chance.
+pub fn law_of_one_secret()
+    ensures { LawOfOneSecret }
 {}
 
 /// What a directory whose shape fits a secret opens to with it.

@@ -1,7 +1,7 @@
 -- Each turn of a task that opens a key shows what it has to.
 use Rattle.std.proofs.Common.{◌≡◌, ◌≢◌, ℕ, ◌+◌, ◌*◌, ◌<◌, List, [], ◌∷◌, length, refl, sym, ap, ◌∙◌, subst, arith}
 use Rattle.std.proofs.Common.{eq-eqb, cond}
-use Rattle.std.specs.Prelude.{Option, Some, None, is_some, false}
+use Rattle.std.specs.Prelude.{Option, Some, None, is_some}
 use Rattle.tree_model.specs.declared.blobs.Blob.{Blob}
 use Rattle.tree_model.specs.declared.places.Slot.{Slot}
 use Rattle.tree_model.specs.Dir.{Files}
@@ -34,9 +34,9 @@ falls-tried task slot slots stage None more some = omega arith
 falls-tried task slot slots stage (Some key) more some = omega arith
 
 asks-none : (task : Opening) (slot : Slot) (slots : List Slot) (stage : Stage) (key : Option (List ℕ))
-    → asks_of (with_stage (staged task (slot ∷ slots) stage) (opened key)) ≡ false
-asks-none task slot slots stage None = refl
-asks-none task slot slots stage (Some key) = refl
+    → asks_of (with_stage (staged task (slot ∷ slots) stage) (opened key)) < 1
+asks-none task slot slots stage None = omega arith
+asks-none task slot slots stage (Some key) = omega arith
 
 module _ (task : Opening) (slot : Slot) (slots : List Slot) where
   -- the slot at hand is read
@@ -92,14 +92,13 @@ module _ (task : Opening) (slot : Slot) (slots : List Slot) where
     works : (secret : List ℕ) (fits : FitsFiles files secret) →
         let it = record (staged task (slot ∷ slots) (Read files)) { secret = secret } in
         OpenTurns it (Some (Work (job_of it files))) × AsksFor it (job_of it files)
-    works [] fits = (bound-works fits, record { asks = refl; whole = tt; hears = tt; once = refl })
+    works [] fits = (bound-works fits, record { whole = tt; hears = tt; fewer = omega arith })
     works (byte ∷ bytes) fits = (
       secret-works byte bytes fits,
       record {
-        asks = refl;
         whole = fitting.long files (byte ∷ bytes) fits;
         hears = tt;
-        once = asks-none (record task { secret = byte ∷ bytes }) slot slots (Read files)
+        fewer = asks-none (record task { secret = byte ∷ bytes }) slot slots (Read files)
             (unsealed_key (wrap_key_of (app_id_of (discard_at files) (byte ∷ bytes))) (sealed_at files));
       },
     )

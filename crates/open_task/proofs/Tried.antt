@@ -37,7 +37,7 @@ module _ (task : Opening) (share : Share) (sound : IsSound task.user share) (slo
   known = known-there share.vault task.user (own_view share.own) (own_record share.own)
       (view-stands (sealed share.vault) task.user share.own sound.images) left.present
 
-  tells : SlotTells share.vault task.user known.0 files task.secret
+  tells : SlotTells share.vault task.user known.0 slot files task.secret
   tells = slots-tell share.vault task.user (own_view share.own) known.0 slot files task.secret known.1 there
 
   opens-to : (key : Option (List ℕ)) → opens share.vault.entries share.vault.level (held_in files) task.secret ≡ key

@@ -1,5 +1,5 @@
 -- A task that opens a user's credential key, as data: the facts that it rests on, and what it is after an answer.
-use Rattle.std.specs.Prelude.{◌≡◌, ◌≢◌, ℕ, ◌+◌, ◌*◌, Bool, true, false, List, [], ◌∷◌, length, Option, Some, None}
+use Rattle.std.specs.Prelude.{◌≡◌, ◌≢◌, ℕ, ◌+◌, ◌*◌, List, [], ◌∷◌, length, Option, Some, None}
 use Rattle.tree_model.specs.declared.places.Slot.{Slot}
 use Rattle.tree_model.specs.declared.sites.Site.TheVariants.{Ce}
 use Rattle.tree_model.specs.Dir.{Files}
@@ -146,10 +146,10 @@ input_of (byte ∷ bytes) files = Unseal (discard_at files) (byte ∷ bytes) (se
 abbrev pub job_of : Opening → Files → Job
 job_of task files = record { number = task.job; input = input_of task.secret files }
 
--- whether it asks for a job next
-abbrev pub asks_at : Stage → Bool
-asks_at (Read files) = true
-asks_at stage = false
+-- how many jobs it asks for next
+abbrev pub asks_at : Stage → ℕ
+asks_at (Read files) = 1
+asks_at stage = 0
 
-abbrev pub asks_of : Opening → Bool
+abbrev pub asks_of : Opening → ℕ
 asks_of task = asks_at task.stage

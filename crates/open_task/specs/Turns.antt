@@ -1,5 +1,5 @@
 -- What each turn of a task that opens a key shows, in every sound share in which the facts hold that it rests on.
-use Rattle.std.specs.Prelude.{◌≡◌, ℕ, ◌<◌, List, length, Option, Some, None, is_some, true, false}
+use Rattle.std.specs.Prelude.{◌≡◌, ℕ, ◌<◌, List, length, Option, Some, None, is_some, true}
 use Rattle.tree_model.specs.declared.blobs.Blob.{Blob}
 use Rattle.tree_model.specs.declared.places.Slot.{Slot}
 use Rattle.tree_model.specs.declared.sites.Site.TheVariants.{Ce}
@@ -57,12 +57,11 @@ pub record Decrypts (files : Files) (app_id : List ℕ) (doing : Doing) : Type 0
   pub names : named_at (Some files) ≡ Some blob
   pub is : doing ≡ Decrypt blob app_id (sealed_at files)
 
--- a job that it asks for: it may hear the output, and asks for no further job then
+-- a job that it asks for: it may hear the output, and asks for fewer jobs then
 pub record AsksFor (task : Opening) (job : Job) : Type 0 where
-  pub asks : asks_of task ≡ true
   pub whole : HasWholeKey job.input
   pub hears : IsAnswer task (Output (output_of job.input))
-  pub once : asks_of (after task (Output (output_of job.input))) ≡ false
+  pub fewer : asks_of (after task (Output (output_of job.input))) < asks_of task
 
 abbrev pub AsksIn : Opening → Doing → Type 0
 AsksIn task (Work job) = AsksFor task job

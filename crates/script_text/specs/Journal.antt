@@ -4,24 +4,25 @@ use Rattle.std.specs.List.{flat_map}
 use Rattle.journal_model.specs.declared.commands.Command.{Command}
 use Rattle.journal_model.specs.declared.commands.Reply.{Reply}
 use Rattle.journal_model.specs.declared.commands.Reply.TheVariants.{Done, Ended, UserExists, TooManyUsers}
-use Rattle.journal_model.specs.declared.commands.Reply.TheVariants.{NoUser, NotInstalled, WrongSecret, Ready}
+use Rattle.journal_model.specs.declared.commands.Reply.TheVariants.{NoUser, NotInstalled, NoSlot, WrongSecret, Ready}
 use Rattle.journal_model.specs.declared.commands.Reply.TheVariants.{TreeFault, StoreFault, RingFault}
 use Rattle.journal_model.specs.declared.entries.Change.{Change}
-use Rattle.journal_model.specs.declared.entries.Change.TheVariants.{Create as Created}
+use Rattle.journal_model.specs.declared.entries.Change.TheVariants.{Create as Created, Add as Added}
 use Rattle.journal_model.specs.declared.entries.Entry.{Entry}
 use Rattle.journal_model.specs.declared.entries.Entry.TheVariants.{Began, Changed, Synced, Installed, Evicted}
 use Rattle.journal_model.specs.declared.entries.Entry.TheVariants.{Stopped, Restarted, Replied}
 use Rattle.script_text.specs.declared.script.Line.TheVariants.{Do}
-use Rattle.script_text.specs.Words.{decimal, actor_word, class_word, line_of}
+use Rattle.script_text.specs.Words.{decimal, bytes_word, actor_word, class_word, slot_word, line_of}
 use Rattle.script_text.specs.Script.{line_words}
 
 -- a command, as the line of a script that gives it
 abbrev pub command_words : Command → List (List ℕ)
 command_words command = line_words (Do command)
 
--- a change: its name, the user, and when that user was created
+-- a change: its name, the user, and when that user was created, or the further slot with its secret
 abbrev pub change_words : Change → List (List ℕ)
 change_words (Created user birth) = codes "create" ∷ decimal user ∷ decimal birth.boot ∷ decimal birth.index ∷ []
+change_words (Added user slot secret) = codes "add" ∷ decimal user ∷ slot_word slot ∷ bytes_word secret ∷ []
 
 -- how a command ended, and for a recovery the number of deletes
 abbrev pub reply_words : Reply → List (List ℕ)
@@ -31,6 +32,7 @@ reply_words UserExists = codes "user-exists" ∷ []
 reply_words TooManyUsers = codes "too-many-users" ∷ []
 reply_words NoUser = codes "no-user" ∷ []
 reply_words NotInstalled = codes "not-installed" ∷ []
+reply_words NoSlot = codes "no-slot" ∷ []
 reply_words WrongSecret = codes "wrong-secret" ∷ []
 reply_words Ready = codes "ready" ∷ []
 reply_words TreeFault = codes "tree-fault" ∷ []

@@ -2,7 +2,7 @@
 use Rattle.std.specs.Prelude.{◌≡◌, ◌≢◌, ℕ, ◌<◌, ◌≤◌, ◌^◌, Bool, true, false, IsTrue, not, List, [], ◌∷◌, ◌++◌}
 use Rattle.std.specs.Prelude.{length, Option, Some, None, is_none}
 use Rattle.std.specs.List.{flat_map, AllByRecursion}
-use Rattle.journal_model.specs.declared.commands.Command.TheVariants.{Create, Unlock, Lock, Recover}
+use Rattle.journal_model.specs.declared.commands.Command.TheVariants.{Create, Unlock, Lock, Protect, Recover}
 use Rattle.script_text.specs.declared.arguments.Argument.TheVariants as argument
 use Rattle.script_text.specs.declared.arguments.Arguments.{Arguments}
 use Rattle.script_text.specs.declared.forms.Keyword.{Keyword}
@@ -10,7 +10,8 @@ use Rattle.script_text.specs.declared.forms.Keyword.TheVariants as keyword
 use Rattle.script_text.specs.declared.script.Line.{Line}
 use Rattle.script_text.specs.declared.script.Line.TheVariants.{Seed, Do, Turns, All, Stop, Restart}
 use Rattle.script_text.specs.Words.{decimal, joined}
-use Rattle.script_text.specs.Arguments.{argument_words, AllFit, two_given, one_given, none_given}
+use Rattle.script_text.specs.Arguments.{argument_words, AllFit, three_given, two_given, one_given}
+use Rattle.script_text.specs.Arguments.{none_given}
 use Rattle.script_text.specs.Forms.{word_of, kinds_of}
 
 -- a line as a row of the table of words: its word, and its arguments
@@ -19,6 +20,8 @@ row_of (Seed bytes) = (keyword.Seed, one_given (argument.Bytes bytes))
 row_of (Do (Create user)) = (keyword.Create, one_given (argument.Number user))
 row_of (Do (Unlock user secret)) = (keyword.Unlock, two_given (argument.Number user) (argument.Bytes secret))
 row_of (Do (Lock user)) = (keyword.Lock, one_given (argument.Number user))
+row_of (Do (Protect user known fresh)) =
+    (keyword.Protect, three_given (argument.Number user) (argument.Bytes known) (argument.Bytes fresh))
 row_of (Do Recover) = (keyword.Recover, none_given)
 row_of (Turns actor count) = (keyword.Turn, two_given (argument.Actor actor) (argument.Number count))
 row_of All = (keyword.All, none_given)

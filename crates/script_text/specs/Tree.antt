@@ -8,20 +8,13 @@ use Rattle.sha2.specs.Sha512.{sha512}
 use Rattle.tree_model.specs.declared.files.FileName.{FileName}
 use Rattle.tree_model.specs.declared.files.FileName.TheVariants.{Version, EncryptedKey, Blob, BlobUpgraded}
 use Rattle.tree_model.specs.declared.files.FileName.TheVariants.{BlobNew, Discard, Stretching, Salt}
-use Rattle.tree_model.specs.declared.places.Slot.{Slot}
-use Rattle.tree_model.specs.declared.places.Slot.TheVariants.{Current, Cx}
 use Rattle.tree_model.specs.declared.places.Place.{Place}
 use Rattle.tree_model.specs.declared.places.Place.TheVariants.{De, Ce, Temp}
 use Rattle.tree_model.specs.Dir.{Files}
 use Rattle.tree_model.specs.Tree.{Tree}
 use Rattle.journal_model.specs.declared.entries.Entry.{Entry}
-use Rattle.script_text.specs.Words.{decimal, ten_digits, bytes_word, line_of}
+use Rattle.script_text.specs.Words.{decimal, bytes_word, slot_word, line_of}
 use Rattle.script_text.specs.Journal.{journal_text}
-
--- a numbered slot is `cx` and ten digits
-abbrev pub slot_word : Slot → List ℕ
-slot_word Current = codes "current"
-slot_word (Cx number) = codes "cx" ++ ten_digits number
 
 -- a place: its kind, its user and for a credential key its slot
 abbrev pub place_word : Place → List ℕ

@@ -1,8 +1,10 @@
--- How numbers, bytes, actors, classes and fills are spelled, and how words make a line.
+-- How numbers, bytes, actors, classes, slots and fills are spelled, and how words make a line.
 use Rattle.std.specs.Prelude.{ℕ, ◌-◌, List, [], ◌∷◌, ◌++◌, length, map, replicate, codes}
 use Rattle.hex.specs.Hex.{encode_lower}
 use Rattle.tree_model.specs.declared.places.Class.{Class}
 use Rattle.tree_model.specs.declared.places.Class.TheVariants.{De, Ce}
+use Rattle.tree_model.specs.declared.places.Slot.{Slot}
+use Rattle.tree_model.specs.declared.places.Slot.TheVariants.{Current, Cx}
 use Rattle.tree_model.specs.declared.ops.Fill.{Fill}
 use Rattle.tree_model.specs.declared.ops.Fill.TheVariants.{Same, Bytes}
 use Rattle.journal_model.specs.declared.commands.Actor.{Actor}
@@ -29,6 +31,11 @@ actor_word (User user) = decimal user
 abbrev pub class_word : Class → List ℕ
 class_word De = codes "de"
 class_word Ce = codes "ce"
+
+-- a numbered slot is `cx` and ten digits
+abbrev pub slot_word : Slot → List ℕ
+slot_word Current = codes "current"
+slot_word (Cx number) = codes "cx" ++ ten_digits number
 
 -- a fill: an equals sign for a write's own bytes, else the bytes
 abbrev pub fill_word : Fill → List ℕ

@@ -19,6 +19,7 @@ pub enum Keyword {
     Create,
     Unlock,
     Lock,
+    Protect,
     Recover,
     Turn,
     All,
@@ -43,11 +44,12 @@ const LEVEL: Kind = Kind::Number { least: 1, most: 1 };
 
 impl Keyword {
     /// All of them.
-    const EVERY: [Keyword; 9] = [
+    const EVERY: [Keyword; 10] = [
         Keyword::Seed,
         Keyword::Create,
         Keyword::Unlock,
         Keyword::Lock,
+        Keyword::Protect,
         Keyword::Recover,
         Keyword::Turn,
         Keyword::All,
@@ -65,6 +67,10 @@ impl Keyword {
             Keyword::Create => (b"create", Kinds::one(ANY_NUMBER)),
             Keyword::Unlock => (b"unlock", Kinds::two(ANY_NUMBER, Kind::Bytes)),
             Keyword::Lock => (b"lock", Kinds::one(ANY_NUMBER)),
+            Keyword::Protect => (
+                b"protect",
+                Kinds::three(ANY_NUMBER, Kind::Bytes, Kind::Bytes),
+            ),
             Keyword::Recover => (b"recover", Kinds::one(Kind::Never)),
             Keyword::Turn => (b"turn", Kinds::two(Kind::Actor, COUNT)),
             Keyword::All => (b"all", Kinds::none()),
@@ -109,7 +115,7 @@ impl Keyword {
         let Arguments {
             first,
             second,
-            third: _,
+            third,
             fills,
         } = given;
         match self {
@@ -123,6 +129,11 @@ impl Keyword {
             }),
             Keyword::Lock => Line::Do(Command::Lock {
                 user: first.number(),
+            }),
+            Keyword::Protect => Line::Do(Command::Protect {
+                user: first.number(),
+                known: second.into_secret(alloc),
+                fresh: third.into_secret(alloc),
             }),
             Keyword::Recover => Line::Do(Command::Recover),
             Keyword::Turn => Line::Turns(first.actor(), second.number()),

@@ -71,6 +71,10 @@ fn row_of_change(change: &Change) -> Row<'_>
             let boot = Shown::Number(birth.boot);
             Row::three(b"create", small(*user), boot, small(birth.index))
         }
+        Change::Add { user, slot, secret } => {
+            let secret = Shown::Bytes(secret.as_slice());
+            Row::three(b"add", small(*user), Shown::Slot(*slot), secret)
+        }
     }
 }
 
@@ -84,6 +88,7 @@ fn row_of_reply(reply: Reply) -> Row<'static>
         Reply::TooManyUsers => Row::alone(b"too-many-users"),
         Reply::NoUser => Row::alone(b"no-user"),
         Reply::NotInstalled => Row::alone(b"not-installed"),
+        Reply::NoSlot => Row::alone(b"no-slot"),
         Reply::WrongSecret => Row::alone(b"wrong-secret"),
         Reply::Ready => Row::alone(b"ready"),
         Reply::TreeFault => Row::alone(b"tree-fault"),

@@ -15,6 +15,7 @@ pub mod ring_lines;
 pub mod script;
 pub mod script_lines;
 mod shown;
+mod slots;
 pub mod status;
 pub mod tree_lines;
 

@@ -60,6 +60,11 @@ pub fn push_command(alloc: Global, out: &mut Vec<u8>, command: &Command) -> Resu
             Row::two(Keyword::Unlock.text(), number(*user), secret).push(alloc, out)
         }
         Command::Lock { user } => { Row::one(Keyword::Lock.text(), number(*user)).push(alloc, out) }
+        Command::Protect { user, known, fresh } => {
+            let known = Shown::Bytes(known.as_slice());
+            let fresh = Shown::Bytes(fresh.as_slice());
+            Row::three(Keyword::Protect.text(), number(*user), known, fresh).push(alloc, out)
+        }
         Command::Recover => Row::alone(Keyword::Recover.text()).push(alloc, out),
     }
 }

@@ -4,9 +4,10 @@ ghost use Rattle.script_text.specs.Words.{actor_word, class_word, fill_words, sp
 ghost use Rattle.script_text.specs.Shown.{shown_words, all_words, row_words};
 
 use crate::appending::{push_bytes, push_number, push_text, push_word};
+use crate::slots::push_slot;
 use journal_model::Actor;
 use std::alloc::Global;
-use tree_model::{Class, Fill, NoMemory};
+use tree_model::{Class, Fill, NoMemory, Slot};
 
 /// What is printed as words.
 #[derive(Clone, Copy)]
@@ -21,6 +22,8 @@ pub enum Shown<'a> {
     Bytes(&'a [u8]),
     /// An actor's name.
     Actor(Actor),
+    /// A slot's name.
+    Slot(Slot),
     /// A word for each fill.
     Fills(&'a [Fill]),
 }
@@ -118,6 +121,10 @@ fn push_shown(alloc: Global, out: &mut Vec<u8>, shown: Shown<'_>) -> Result<(), 
         Shown::Number(number) => push_number(alloc, out, number),
         Shown::Bytes(bytes) => push_bytes(alloc, out, bytes),
         Shown::Actor(actor) => push_actor(alloc, out, actor),
+        Shown::Slot(slot) => {
+            push_text(out, b" ")?;
+            push_slot(alloc, out, slot)
+        }
         Shown::Fills(fills) => push_fills(alloc, out, fills),
     }
 }

@@ -24,6 +24,10 @@ const EVERY_ENTRY: &[u8] =
      replied 8 ok 12\nreplied 9 user-exists\nreplied 10 wrong-secret\nreplied 11 ready\n\
      replied 12 ring-fault\nreplied 13 too-many-users\nreplied 18446744073709551615 tree-fault\n";
 
+const PROTECTED_JOURNAL: &[u8] =
+    b"journal 4\nbegan 1 10 protect 10 - 7365\nchanged 1 add 10 cx0000000000 7365\n\
+     changed 2 add 11 current -\nreplied 3 no-slot\n";
+
 const EVERY_NAME: &[u8] =
     b"later 4 checkpoint 3\ndir de/0\nfile version 1 30\nfile encrypted_key 2 00ff\n\
      file keymaster_key_blob 1 0a\nfile keymaster_key_blob_upgraded 1 0b\n\
@@ -150,6 +154,43 @@ fn prints_every_entry(rt: HostRuntime) -> Result<(), Fail> {
     Ok(())
 }
 
+/// The secret of a few bytes.
+fn secret_of(alloc: Global, bytes: &[u8]) -> Result<Secret, NoMemory> {
+    let secret = Secret::new(Bytes::copy(alloc, bytes)?);
+    Ok(secret.unwrap_or(Secret::empty(alloc)))
+}
+
+#[test]
+fn prints_a_protect(rt: HostRuntime) -> Result<(), Fail> {
+    let mut entries = Vec::new(rt.alloc());
+    entries.push(Entry::Began {
+        number: 1,
+        actor: Actor::User(10),
+        command: Command::Protect {
+            user: 10,
+            known: Secret::empty(rt.alloc()),
+            fresh: secret_of(rt.alloc(), b"se")?,
+        },
+    })?;
+    entries.push(added(1, 10, Slot::Cx(0), secret_of(rt.alloc(), b"se")?))?;
+    entries.push(added(2, 11, Slot::Current, Secret::empty(rt.alloc())))?;
+    entries.push(Entry::Replied {
+        number: 3,
+        reply: Reply::NoSlot,
+    })?;
+    let journal = print_journal(rt.alloc(), entries.as_slice())?;
+    assert_eq!(rt; journal.as_slice(), PROTECTED_JOURNAL);
+    Ok(())
+}
+
+/// The entry of a slot that a command of this number added.
+fn added(number: u64, user: u32, slot: Slot, secret: Secret) -> Entry {
+    Entry::Changed {
+        number,
+        change: Change::Add { user, slot, secret },
+    }
+}
+
 #[test]
 fn prints_every_name(rt: HostRuntime) -> Result<(), Fail> {
     let files: [(FileName, &[u8]); 8] = [
@@ -233,7 +274,7 @@ fn prints_a_ring(rt: HostRuntime) -> Result<(), Fail> {
 
 #[test]
 fn prints_scripts_back(rt: HostRuntime) -> Result<(), Fail> {
-    let texts: [&[u8]; 11] = [
+    let texts: [&[u8]; 13] = [
         b"",
         b"create 10\nall\n",
         b"create 10\nturn 10 6\nstop 1\nrestart 1\nall\n",
@@ -243,6 +284,8 @@ fn prints_scripts_back(rt: HostRuntime) -> Result<(), Fail> {
         b"seed -\ncreate 0\ncreate 4294967295\n",
         b"unlock 10 -\n",
         b"unlock 10 7365\n",
+        b"protect 10 - 7365\n",
+        b"protect 4294967295 00ff -\n",
         b"seed 00ff\nturn boot 1\nturn 0 4096\nstop 4294967295 - = 0a\nrestart 1\nstop 0\n",
         FULL_STOP,
     ];
@@ -310,6 +353,32 @@ fn reads_lines(rt: HostRuntime) -> Result<(), Fail> {
     assert!(rt;
         matches!(lines.get(6), Some(Line::Do(Command::Unlock { user: 10, secret }))
         if secret.as_slice() == b"se".as_slice())
+    );
+    Ok(())
+}
+
+#[test]
+fn refuses_protects(rt: HostRuntime) -> Result<(), Fail> {
+    let texts: [&[u8]; 5] = [
+        b"protect 10 7365\n",
+        b"protect 10 - 7365 -\n",
+        b"protect 10 - AB\n",
+        b"protect - 7365\n",
+        b"protect 4294967296 - 7365\n",
+    ];
+    for text in texts {
+        assert!(rt; read_script(rt.alloc(), text)?.is_none(), "at {text:?}");
+    }
+    Ok(())
+}
+
+#[test]
+fn reads_a_protect(rt: HostRuntime) -> Result<(), Fail> {
+    let script = read_script(rt.alloc(), b"protect 10 7365 00ff\n")?;
+    let lines = script.as_ref().map(Script::lines).unwrap_or(&[]);
+    assert!(rt;
+        matches!(lines.first(), Some(Line::Do(Command::Protect { user: 10, known, fresh }))
+        if known.as_slice() == b"se".as_slice() && fresh.as_slice() == [0, 255].as_slice())
     );
     Ok(())
 }

@@ -2,18 +2,16 @@
 ghost use Rattle.std.specs.Prelude.{◌≡◌, [], ◌∷◌, ◌++◌, OnOk, IfOk};
 ghost use Rattle.std.specs.List.{flat_map};
 ghost use Rattle.std.specs.FinMap as map;
-ghost use Rattle.script_text.specs.Words.{spaced, ten_digits};
-ghost use Rattle.script_text.specs.Tree.{slot_word, place_word, file_word, file_line, dir_text, tries_words};
+ghost use Rattle.script_text.specs.Words.{spaced};
+ghost use Rattle.script_text.specs.Tree.{place_word, file_word, file_line, dir_text, tries_words};
 ghost use Rattle.script_text.specs.Tree.{hash_word, content_word, tree_section};
 
 use crate::appending::{push_bytes, push_decimal, push_line_feed, push_text};
 use crate::shown::{Row, Shown, number};
+use crate::slots::push_slot;
 use sha2::{Digest, Sha512};
 use std::alloc::Global;
-use tree_model::{Bytes, Dir, FileName, NoMemory, Place, Slot};
-
-/// The zeros of a slot's ten digits.
-const ZEROS: [u8; 10] = [b'0'; 10];
+use tree_model::{Bytes, Dir, FileName, NoMemory, Place};
 
 /// The most bytes of a file that are printed themselves.
 const MOST_PRINTED: usize = 128;
@@ -132,25 +130,4 @@ fn push_place(alloc: Global, out: &mut Vec<u8>, place: Place) -> Result<(), NoMe
             push_decimal(alloc, out, u64::from(user))
         }
     }
-}
-
-fn push_slot(alloc: Global, out: &mut Vec<u8>, slot: Slot) -> Result<(), NoMemory>
-    ensures { OnOk result (out.new.items ≡ out.old.items ++ slot_word slot) }
-{
-    match slot {
-        Slot::Current => push_text(out, b"current"),
-        Slot::Cx(number) => {
-            push_text(out, b"cx")?;
-            push_ten_digits(alloc, out, number)
-        }
-    }
-}
-
-fn push_ten_digits(alloc: Global, out: &mut Vec<u8>, number: u32) -> Result<(), NoMemory>
-    ensures { OnOk result (out.new.items ≡ out.old.items ++ ten_digits number) }
-{
-    let text = number.to_string(alloc)?;
-    let digits = text.as_bytes();
-    push_text(out, &ZEROS[digits.len()..])?;
-    push_text(out, digits)
 }

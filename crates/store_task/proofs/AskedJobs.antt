@@ -1,5 +1,5 @@
--- The job that a task asks for: it may hear the output, and asks for no further one.
-use Rattle.std.proofs.Common.{◌≡◌, ℕ, true, false, List, [], ◌∷◌, refl, sym, subst}
+-- The job that a task asks for: it may hear the output, and asks for fewer then.
+use Rattle.std.proofs.Common.{◌≡◌, ℕ, ◌<◌, List, [], ◌∷◌, refl, sym, subst, arith}
 use Rattle.step_core.specs.declared.jobs.Job.{Job}
 use Rattle.step_core.specs.Jobs.{output_of}
 use Rattle.task_turns.specs.declared.calls.Answer.TheVariants.{Output}
@@ -12,10 +12,9 @@ use Rattle.store_task.specs.Turns.{AsksFirst}
 
 -- what holds of a task that asks for the job
 pub record IsAsked (task : Task) (job : Job) : Type 0 where
-  pub asks : asks_of task ≡ true
   pub whole : HasWholeKey job.input
   pub hears : IsAnswer task (Output (output_of job.input))
-  pub once : asks_of (after task (Output (output_of job.input))) ≡ false
+  pub fewer : asks_of (after task (Output (output_of job.input))) < asks_of task
   -- the directory isn't begun with the output
   pub absent : progress_of (after task (Output (output_of job.input))).stage ≡ Absent
 
@@ -24,8 +23,8 @@ module _ (spec : StoreSpec) (number : ℕ) where
   begun secret = record { spec = record spec { secret = secret }; job = number; stage = First }
 
   asked-first : (secret : List ℕ) → IsAsked (begun secret) (first_job (begun secret))
-  asked-first [] = record { asks = refl; whole = tt; hears = refl; once = refl; absent = refl }
-  asked-first (byte ∷ bytes) = record { asks = refl; whole = tt; hears = λ e. cc; once = refl; absent = refl }
+  asked-first [] = record { whole = tt; hears = refl; fewer = omega arith; absent = refl }
+  asked-first (byte ∷ bytes) = record { whole = tt; hears = λ e. cc; fewer = omega arith; absent = refl }
 
 pub asked : (task : Task) (job : Job) → AsksFirst task job → IsAsked task job
 asked task job asks =

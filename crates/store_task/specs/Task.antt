@@ -1,6 +1,6 @@
 -- A task that stores a directory, as data: the files that it wrote so far, the facts that it rests on, and what it is
 -- after an answer.
-use Rattle.std.specs.Prelude.{◌≡◌, ◌≢◌, ℕ, Bool, true, false, cond, List, [], ◌∷◌, length, Option, Some, None, is_some}
+use Rattle.std.specs.Prelude.{◌≡◌, ◌≢◌, ℕ, Bool, cond, List, [], ◌∷◌, length, Option, Some, None, is_some}
 use Rattle.std.specs.FinMap as map
 use Rattle.tree_model.specs.declared.blobs.Blob.{Blob}
 use Rattle.tree_model.specs.declared.files.FileName.TheVariants.{Version, EncryptedKey, Blob as BlobFile, Discard}
@@ -232,6 +232,10 @@ stage_after (Storing blob sealed progress) answer = after_storing blob sealed pr
 abbrev pub after : Task → Answer → Task
 after task answer = record task { stage = stage_after task.stage answer }
 
+-- the task with another key to store
+abbrev pub with_key : Task → List ℕ → Task
+with_key task key = record task { spec = record task.spec { key = key } }
+
 -- the output that the secret's kind of sealing begins with
 abbrev pub IsOutput : List ℕ → JobOutput → Type 0
 IsOutput secret (IsAppId app_id) = secret ≡ []
@@ -276,12 +280,10 @@ first_job task = record {
   input = first_input task.spec.discard task.spec.nonce task.spec.key task.spec.secret;
 }
 
--- whether it asks for its job next
-abbrev pub asks_at : Stage → Bool
-asks_at First = true
-asks_at (Tied app_id) = false
-asks_at (Generated app_id blob) = false
-asks_at (Storing blob sealed progress) = false
+-- how many jobs it asks for next
+abbrev pub asks_at : Stage → ℕ
+asks_at First = 1
+asks_at stage = 0
 
-abbrev pub asks_of : Task → Bool
+abbrev pub asks_of : Task → ℕ
 asks_of task = asks_at task.stage

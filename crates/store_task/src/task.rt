@@ -5,7 +5,7 @@ ghost use Rattle.tree_model.specs.declared.sites.Site.TheVariants.{Temp};
 ghost use Rattle.store_task.specs.declared.stages.Stage.TheVariants.{First, Storing};
 ghost use Rattle.store_task.specs.declared.turns.Doing.TheVariants.{Tree};
 ghost use Rattle.tree_model.specs.declared.sites.LocalOp.TheVariants.{Write};
-ghost use Rattle.store_task.specs.Task.{IsTask, IsAnswer, after, first_job, progress_of, held_by, held_of};
+ghost use Rattle.store_task.specs.Task.{IsTask, IsAnswer, after, first_job, with_key, progress_of, held_by, held_of};
 ghost use Rattle.store_task.specs.Turns.{StoreTurns, StoreAsks};
 
 use crate::stages::{Progress, Stage};
@@ -72,11 +72,19 @@ impl StoreTask {
         })
     }
 
-    /// The key that it stores.
-    pub fn key(&self) -> [u8; 64]
-        ensures { result ≡ self.now.spec.key }
+    /// What it stores, and where.
+    pub fn spec(&self) -> &StoreSpec
+        ensures { result.now ≡ self.now.spec }
     {
-        self.spec.key
+        &self.spec
+    }
+
+    /// It stores this key from now on.
+    pub fn set_key(&mut self, key: [u8; 64])
+        ensures key { self.new ≡ with_key self.old key }
+        ensures whole { IsTask self.new }
+    {
+        self.spec.key = key;
     }
 
     /// How far its directory is.

@@ -33,6 +33,9 @@ fn begins_under_an_entry(rt: HostRuntime) -> Result<(), Fail> {
         discard: discard(alloc)?,
     };
     let mut task = StoreTask::new(spec, 655360);
+    assert!(rt; task.spec().key == [1; 64]);
+    task.set_key([5; 64]);
+    assert!(rt; task.spec().key == [5; 64]);
     assert!(rt; matches!(task.next(alloc)?, Some(Doing::Work(_))));
     task.heard(Answer::Output(JobOutput::AppId(Bytes::copy(alloc, &[3; 64])?)));
     assert!(rt; matches!(task.next(alloc)?, Some(Doing::Generate { .. })));

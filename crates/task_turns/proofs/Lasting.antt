@@ -3,19 +3,23 @@ use Rattle.std.proofs.Common.{◌≡◌, ℕ, List, [], ◌∷◌, sym, ap, ◌�
 use Rattle.std.proofs.Common.{◌⊎◌, inl, inr}
 use Rattle.std.specs.Prelude.{is_some, IsSome, Contains, Option, Some, None}
 use Rattle.tree_model.specs.declared.blobs.Blob.{Blob}
+use Rattle.tree_model.specs.declared.places.Class.TheVariants.{Ce as ForCe}
 use Rattle.tree_model.specs.declared.places.Slot.{Slot}
 use Rattle.tree_model.specs.declared.sites.Site.{Site}
 use Rattle.tree_model.specs.declared.sites.Site.TheVariants.{De, Ce}
 use Rattle.tree_model.specs.Dir.{Files}
 use Rattle.tree_model.specs.Named.{named_at}
 use Rattle.tree_model.specs.Parts.{Part}
-use Rattle.journal_model.specs.Made.{key_of}
+use Rattle.journal_model.specs.Made.{key_of, nonce_of, discardable_of}
 use Rattle.keystore_model.specs.declared.entry.Tag.{Tag}
 use Rattle.user_world.specs.OwnWorlds.{own_view}
+use Rattle.user_world.specs.Facts.{Knows}
 use Rattle.user_world.proofs.Facts.{later-facts}
 use Rattle.key_directory.specs.Opened.{OpensTo}
 use Rattle.key_directory.proofs.Opened.{kept-opening}
-use Rattle.task_turns.specs.Shares.{Share, ShareFact, Own, KeyFor, SealedFor, Same, Given, HasKey, LeftToTry, Opens}
+use Rattle.task_turns.specs.Shares.{Share, ShareFact, Own, KeyFor, SealedFor, Same, Given, Drawn, Gave, NextSlot}
+use Rattle.task_turns.specs.Shares.{HasKey}
+use Rattle.task_turns.specs.Shares.{LeftToTry, Opens}
 use Rattle.task_turns.specs.Shares.{IsKeyFor, Has, AllHas, LaterShare, IsHeld, AreHeld, AreLeftToTry, IsFirstOpened}
 
 module _ (held : List Blob) (before after : Share) (later : LaterShare held before after) where
@@ -93,6 +97,16 @@ module _ (held : List Blob) (before after : Share) (later : LaterShare held befo
   fact-lasts (Same a b) is has = has
   fact-lasts (Given key class user birth) is has =
       has ∙ sym (ap (λ seed. key_of seed class user birth) later.seed)
+  fact-lasts (Drawn nonce discard user made) is has = (
+    has.0 ∙ sym (ap (λ seed. nonce_of seed ForCe user made) later.seed),
+    has.1 ∙ sym (ap (λ seed. discardable_of seed ForCe user made) later.seed),
+  )
+  fact-lasts (Gave user secret) is has = λ some. (later.attempts user).secrets secret (has some)
+  fact-lasts (NextSlot slot) is has = record {
+    known = has.known;
+    there = (later-facts (Knows (Some has.known) ∷ []) before.own after.own later.own (has.there, tt)).0;
+    next = has.next;
+  }
   fact-lasts (HasKey class there) is has = subst (λ keys. is_some (keys class) ≡ there) (sym later.keys) has
   fact-lasts (LeftToTry secret left) is has = left-to-try secret left has
   fact-lasts (Opens secret key) is has = first-opened secret key has

@@ -3,21 +3,23 @@ use Rattle.std.specs.Prelude.{◌≡◌, ◌⊎◌, ℕ, Bool, List, [], ◌∷�
 use Rattle.std.specs.declared.cmp.Ordering.TheVariants.{Less}
 use Rattle.tree_model.specs.declared.blobs.Blob.{Blob}
 use Rattle.tree_model.specs.declared.places.Class.{Class}
+use Rattle.tree_model.specs.declared.places.Class.TheVariants.{Ce as ForCe}
 use Rattle.tree_model.specs.declared.places.Slot.{Slot}
 use Rattle.tree_model.specs.declared.sites.Site.TheVariants.{De, Ce}
 use Rattle.tree_model.specs.Dir.{Files}
 use Rattle.tree_model.specs.Named.{PartNames}
 use Rattle.tree_model.specs.Order.{slot_cmp}
 use Rattle.journal_model.specs.declared.entries.Birth.{Birth}
-use Rattle.journal_model.specs.Made.{key_of}
+use Rattle.journal_model.specs.Made.{key_of, nonce_of, discardable_of}
+use Rattle.journal_model.specs.Users.{Record, next_slot}
 use Rattle.seal_model.specs.Sealed.{sealed_text}
 use Rattle.keystore_model.specs.declared.entry.StoreEntry.{StoreEntry}
 use Rattle.keystore_model.specs.declared.entry.Tag.{Tag}
 use Rattle.keystore_model.specs.Store.{entry_of}
-use Rattle.user_world.specs.OwnWorlds.{OwnWorld, OwnImagesStand, own_view}
+use Rattle.user_world.specs.OwnWorlds.{OwnWorld, OwnImagesStand, own_view, own_record}
 use Rattle.user_world.specs.Facts.{Fact, Holds, Later}
-use Rattle.key_directory.specs.Opened.{AreCurrent, HasNoAdditions, OpensTo, FitsFiles}
-use Rattle.key_directory.specs.Vaults.{Vault, KeepsEntry, sealed as sealed_in}
+use Rattle.key_directory.specs.Opened.{AreCurrent, WasGiven, OpensTo, FitsFiles}
+use Rattle.key_directory.specs.Vaults.{Vault, Extends, KeepsEntry, sealed as sealed_in}
 
 pub record Share : Type 0 where
   pub own : OwnWorld
@@ -36,6 +38,13 @@ pub data ShareFact : Type 0 where
   Same : List ℕ → List ℕ → ShareFact
   -- these bytes are the key that a user of this birth was given
   Given : List ℕ → Class → ℕ → Birth → ShareFact
+  -- these bytes are the nonce and the discardable file of a credential key's directory that the user's command makes
+  -- which began at this place
+  Drawn : List ℕ → List ℕ → ℕ → Birth → ShareFact
+  -- a command of the user gave this secret, unless it is empty
+  Gave : ℕ → List ℕ → ShareFact
+  -- the slot that a further secret of the user comes into
+  NextSlot : Slot → ShareFact
   -- whether the user's key of this class is in the ring
   HasKey : Class → Bool → ShareFact
   -- of the user's slots these are left to try with a secret, and the key that the newest one opens to that opens
@@ -85,12 +94,22 @@ pub record IsFirstOpened (share : Share) (secret key : List ℕ) : Type 0 where
   pub newer : (other : Slot) (dir : Files) → slot_cmp slot other ≡ Less → own_view share.own (Ce other) ≡ Some dir
       → OpensTo share.vault dir secret None
 
+-- the user is there, and a further secret comes into this slot
+pub record IsNextSlot (share : Share) (slot : Slot) : Type 0 where
+  pub known : Record
+  pub there : own_record share.own ≡ Some known
+  pub next : slot ≡ next_slot known
+
 abbrev pub Has : ShareFact → Share → Type 0
 Has (Own fact) share = Holds fact share.own
 Has (KeyFor blob app_id tag) share = IsKeyFor share.vault blob app_id tag
 Has (SealedFor blob app_id tag nonce key sealed) share = IsSealedFor share.vault blob app_id tag nonce key sealed
 Has (Same a b) share = a ≡ b
 Has (Given key class user birth) share = key ≡ key_of share.vault.seed class user birth
+Has (Drawn nonce discard user made) share = (nonce ≡ nonce_of share.vault.seed ForCe user made)
+    × (discard ≡ discardable_of share.vault.seed ForCe user made)
+Has (Gave user secret) share = WasGiven (share.vault.attempts user) secret
+Has (NextSlot slot) share = IsNextSlot share slot
 Has (HasKey class there) share = is_some (share.keys class) ≡ there
 Has (LeftToTry secret left) share = AreLeftToTry share secret left
 Has (Opens secret key) share = IsFirstOpened share secret key
@@ -100,11 +119,13 @@ AllHas [] share = Unit {0}
 AllHas (fact ∷ facts) share = Has fact share × AllHas facts share
 
 -- between two turns of a task that holds these blobs, the user's world stays or is settled, the level, the seed and
--- the user's keys in the ring stay, and so do the entries of the blobs and of those that the user's directories name
+-- the user's keys in the ring stay, and so do the entries of the blobs and of those that the user's directories name;
+-- more may have been tried
 pub record LaterShare (held : List Blob) (before after : Share) : Type 0 where
   pub own : Later before.own after.own
   pub level : after.vault.level ≡ before.vault.level
   pub seed : after.vault.seed ≡ before.vault.seed
+  pub attempts : (user : ℕ) → Extends (before.vault.attempts user) (after.vault.attempts user)
   pub keys : after.keys ≡ before.keys
   pub kept : (blob : Blob) → Contains held blob → KeepsEntry before.vault after.vault blob
   pub named : (blob : Blob) → PartNames (own_view before.own) blob → KeepsEntry before.vault after.vault blob
@@ -116,6 +137,9 @@ IsHeld held (KeyFor blob app_id tag) = Contains held blob
 IsHeld held (SealedFor blob app_id tag nonce key sealed) = Contains held blob
 IsHeld held (Same a b) = Unit {0}
 IsHeld held (Given key class user birth) = Unit {0}
+IsHeld held (Drawn nonce discard user made) = Unit {0}
+IsHeld held (Gave user secret) = Unit {0}
+IsHeld held (NextSlot slot) = Unit {0}
 IsHeld held (HasKey class there) = Unit {0}
 IsHeld held (LeftToTry secret left) = Unit {0}
 IsHeld held (Opens secret key) = Unit {0}
@@ -124,9 +148,7 @@ abbrev pub AreHeld : List Blob → List ShareFact → Type 0
 AreHeld held [] = Unit {0}
 AreHeld held (fact ∷ facts) = IsHeld held fact × AreHeld held facts
 
--- a user's share as a turn finds it: every part that a stop can leave stands, every entry is at the store's level, and
--- nothing was added under a secret
+-- a user's share as a turn finds it: every part that a stop can leave stands, and every entry is at the store's level
 pub record IsSound (user : ℕ) (share : Share) : Type 0 where
   pub images : OwnImagesStand (sealed_in share.vault) user share.own
   pub current : AreCurrent share.vault
-  pub bare : HasNoAdditions (share.vault.attempts user)

@@ -1,5 +1,5 @@
 -- The turns of a user's task over its share of the devices, and what the task has to show of each.
-use Rattle.std.specs.Prelude.{◌⊎◌, ◌≡◌, Bool, true, false, cond, ℕ, ◌+◌, ◌<◌, ◌≤◌, List, [], ◌∷◌, ◌++◌}
+use Rattle.std.specs.Prelude.{◌⊎◌, ◌≡◌, Bool, true, cond, ℕ, ◌+◌, ◌<◌, ◌≤◌, List, [], ◌∷◌, ◌++◌}
 use Rattle.std.specs.Prelude.{length, Option, Some, None, IfSome, is_some, Contains}
 use Rattle.tree_model.specs.declared.blobs.Blob.{Blob}
 use Rattle.tree_model.specs.declared.places.Class.{Class}
@@ -30,7 +30,8 @@ use Rattle.user_world.specs.Changes.{change_of}
 use Rattle.user_world.specs.OwnWorlds.{own_view, own_record, with_step, settled}
 use Rattle.user_world.specs.Turns.{StepShows, IsLogged, AreDurable, with_note, adds_local, takes_local}
 use Rattle.key_directory.specs.Opened.{answer_in}
-use Rattle.key_directory.specs.Vaults.{sealed}
+use Rattle.key_directory.specs.Tried.{additions_of, if_of, with_additions}
+use Rattle.key_directory.specs.Vaults.{Vault, SureOf, sealed}
 use Rattle.task_turns.specs.declared.calls.Answer.{Answer}
 use Rattle.task_turns.specs.declared.calls.Answer.TheVariants.{Done, Directory, Blob as IsBlob, Sealed, Decrypted}
 use Rattle.task_turns.specs.declared.calls.Answer.TheVariants.{Output}
@@ -81,22 +82,23 @@ pub record Scene : Type 0 where
   pub began : Began
   pub share : Share
 
--- what a type of tasks is: where each rests, which answers it may hear, what it is after one, and which ask for a job
+-- what a type of tasks is: where each rests, which answers it may hear, what it is after one, and how many jobs it
+-- asks
+-- for at most before its next call or reply
 pub record Tasks (T : Type 0) : Type 1 where
   pub rest_of : T → Rest
   pub hears : T → Answer → Type 0
   pub after : T → Answer → T
-  -- whether it asks for a job next
-  pub asks : T → Bool
+  pub asks : T → ℕ
 
--- a task before a turn: where it rests, which answers it may hear, and where it rests after one
+-- a task before a turn: where it rests, which answers it may hear, where it rests after one, and how many jobs it asks
+-- for at most before its next call or reply, now and after an answer
 pub record Seen : Type 1 where
   pub now : Rest
   pub hears : Answer → Type 0
   pub then : Answer → Rest
-  -- whether it asks for a job next, and after an answer
-  pub asks : Bool
-  pub asks_then : Answer → Bool
+  pub asks : ℕ
+  pub asks_then : Answer → ℕ
 
 abbrev pub seen_of : {T : Type 0} → Tasks T → T → Seen
 seen_of tasks task = record {
@@ -166,12 +168,21 @@ with_key share class key = record share {
 abbrev pub without_key : Share → Class → Share
 without_key share class = record share { keys = λ other. cond (same_class other class) None (share.keys other) }
 
+-- what directories are opened with once a change of the command's was noted: what it added was made for it
+abbrev pub noting : ℕ → Scene → Option LocalChange → Vault
+noting user scene None = scene.share.vault
+noting user scene (Some change) = record scene.share.vault {
+  attempts = λ other. with_additions (scene.share.vault.attempts other) (if_of other (Some user)
+      (additions_of scene.share.vault.seed other (record { boot = scene.boot; index = scene.began.index })
+      (own_record scene.share.own) change));
+}
+
 -- an operation on the task's own user's places may be made and makes the change that it notes; what it makes the
 -- user's directories name was held, and is let go
 pub record OpShows (seen : Seen) (scene : Scene) (owner : ℕ) (op : LocalOp)
     (names : Option Blob) (change : Option LocalChange) : Type 0 where
   pub mine : owner ≡ seen.now.user
-  pub step : StepShows (sealed scene.share.vault) seen.now.user scene.share.own
+  pub step : StepShows (sealed (noting seen.now.user scene change)) seen.now.user scene.share.own
       (record { op = op; note = change }) []
   pub brings : BringsBlob (own_view scene.share.own) op names
   pub gains : List Blob
@@ -235,13 +246,15 @@ pub record DecryptShows (seen : Seen) (scene : Scene) (blob : Blob) (app_id seal
   pub quiet : change ≡ None
   pub long : length sealed_key ≡ 92
   pub held : (seen.then (Decrypted (answer_in scene.share.vault blob app_id sealed_key))).held ≡ seen.now.held
-  pub leads : Leads seen (Decrypted (answer_in scene.share.vault blob app_id sealed_key)) scene None no_cost scene.share
+  pub leads : Leads seen (Decrypted (answer_in scene.share.vault blob app_id sealed_key)) scene None no_cost
+      scene.share
 
--- the user is there, and the key of this class is the one that the user was given
+-- the user is there, and the key of this class is the one that the user was given: a credential key where no tag
+-- matched by chance
 pub record IsGiven (share : Share) (user : ℕ) (class : Class) (key : List ℕ) : Type 0 where
   pub known : Record
   pub there : own_record share.own ≡ Some known
-  pub given : key ≡ key_of share.vault.seed class user known.birth
+  pub given : SureOf (share.vault.attempts user) class → key ≡ key_of share.vault.seed class user known.birth
 
 -- a key that the task's user was given comes into the ring
 pub record AddShows (seen : Seen) (scene : Scene) (owner : ℕ) (class : Class)
@@ -276,25 +289,11 @@ CallStands seen scene ListCall change = ⊥
 CallStands seen scene (Read place) change = ReadShows seen scene place change
 CallStands seen scene Entries change = ⊥
 
--- what a task has to show of a call that it makes next
-pub record CallShows (seen : Seen) (scene : Scene) (call : Call)
-    (change : Option LocalChange) : Type 0 where
-  pub stands : CallStands seen scene call change
-  pub may : IfSome change (λ local.
-      AllowsChange scene.boot scene.began scene.began.command (change_of seen.now.user local))
-  -- and where the call fails, it is told so in one more turn
-  pub lasts : 1 < seen.now.left
-
--- of a job, whose output it hears in the same turn
-pub record WorkShows (seen : Seen) (scene : Scene) (job : Job) : Type 0 where
-  pub held : (seen.then (Output (output_of job.input))).held ≡ seen.now.held
-  pub leads : Leads seen (Output (output_of job.input)) scene None no_cost scene.share
-
 -- whether the user's key of this class is in the ring
 abbrev pub KeyIsIn : ℕ → Share → ℕ → Class → Bool → Type 0
 KeyIsIn user share owner class there = (owner ≡ user) × (is_some (share.keys class) ≡ there)
 
--- what came of the command's work, by its user's share
+-- what is told of the command, by its user's share
 abbrev pub evidence_in : ℕ → Share → Evidence
 evidence_in user share = record {
   logged = IsLogged user share.own;
@@ -303,7 +302,22 @@ evidence_in user share = record {
   recorded = λ owner known. (owner ≡ user) × (own_record share.own ≡ Some known);
 }
 
--- and of a reply: it tells what came of the command's work, and that it holds no blob
+-- what a task has to show of a call that it makes next
+pub record CallShows (seen : Seen) (scene : Scene) (call : Call)
+    (change : Option LocalChange) : Type 0 where
+  pub stands : CallStands seen scene call change
+  pub may : IfSome change (λ local.
+      AllowsChange (evidence_in seen.now.user scene.share) scene.boot scene.began scene.began.command
+      (change_of seen.now.user local))
+  -- and where the call fails, it is told so in one more turn
+  pub lasts : 1 < seen.now.left
+
+-- of a job, whose output it hears in the same turn
+pub record WorkShows (seen : Seen) (scene : Scene) (job : Job) : Type 0 where
+  pub held : (seen.then (Output (output_of job.input))).held ≡ seen.now.held
+  pub leads : Leads seen (Output (output_of job.input)) scene None no_cost scene.share
+
+-- of a reply: it tells what came of the command's work, and that it holds no blob
 pub record ReplyShows (seen : Seen) (scene : Scene) (reply : Reply) : Type 0 where
   pub outcome : kind_of_reply reply ≡ Outcome
   pub may : AllowsOutcome (evidence_in seen.now.user scene.share) scene.boot scene.began reply
@@ -315,12 +329,11 @@ abbrev pub HasWholeKey : JobInput → Type 0
 HasWholeKey (Unseal discard secret sealed_key) = length sealed_key ≡ 92
 HasWholeKey input = Unit {0}
 
--- a job that a task asks for: it may hear the output, and asks for no further job then
+-- a job that a task asks for: it may hear the output, and asks for fewer jobs then
 pub record AsksFor (seen : Seen) (job : Job) : Type 0 where
-  pub asks : seen.asks ≡ true
   pub whole : HasWholeKey job.input
   pub hears : seen.hears (Output (output_of job.input))
-  pub once : seen.asks_then (Output (output_of job.input)) ≡ false
+  pub fewer : seen.asks_then (Output (output_of job.input)) < seen.asks
 
 -- a task asks for a job only where it says so
 abbrev pub Asks : Seen → Next → Type 0

@@ -1,7 +1,7 @@
 -- Operations of a user's command that no standing directory feels: those in the temporary directory, and the removal
 -- of what a failed create left.
 use Rattle.std.proofs.Common.{◌≡◌, ◌≢◌, ℕ, true, false, List, [], refl, sym, ap, ◌∙◌, subst, inl, inr}
-use Rattle.std.specs.Prelude.{◌||◌, Option, None}
+use Rattle.std.specs.Prelude.{◌||◌, Option, Some, None}
 use Rattle.tree_model.specs.declared.blobs.Blob.{Blob}
 use Rattle.tree_model.specs.declared.ops.Fill.TheVariants.{Same}
 use Rattle.tree_model.specs.declared.places.Slot.{Slot}
@@ -26,9 +26,13 @@ use Rattle.blob_custody.specs.Steps.{LetsGo}
 use Rattle.blob_custody.proofs.Names.{absent, not-both, same-names, names-new}
 use Rattle.blob_custody.proofs.Renamings.{whole-remove}
 use Rattle.task_turns.specs.Names.{Gains, Brings}
+use Rattle.task_turns.specs.Shares.{Share, AllHas}
+use Rattle.task_turns.specs.Turns.{operated}
+use Rattle.store_task.specs.declared.stages.Progress.{Progress}
+use Rattle.store_task.specs.declared.stages.Progress.TheVariants.{Settled}
 use Rattle.store_task.proofs.ShownTurns.{at-itself}
-use Rattle.user_tasks.specs.Stores.{part, quiet_turn, op_turn}
-use Rattle.user_tasks.proofs.Whole.{same-parts}
+use Rattle.user_tasks.specs.Stores.{part, whole_facts, quiet_turn, op_turn}
+use Rattle.user_tasks.proofs.Whole.{same-parts, whole-view, whole-here, none-still}
 use Rattle.task_turns.specs.declared.calls.Call.TheVariants.{Op as OpCall}
 
 -- an operation that leaves each site but the temporary one
@@ -127,7 +131,7 @@ debris-gains own slot none = record {
 }
 
 -- the whole part after it, by what the temporary directory is then
-pub aside-part : (own : OwnWorld) (op : LocalOp) (current temp then : Option Files) → IsAside op
+aside-part : (own : OwnWorld) (op : LocalOp) (current temp then : Option Files) → IsAside op
     → own_view own ≡ part current temp → own_view (with_step own (quiet op)) Temp ≡ then
     → own_view (with_step own (quiet op)) ≡ part current then
 aside-part own op current temp then aside here is =
@@ -138,6 +142,19 @@ aside-part own op current temp then aside here is =
     stays site away =
         ap (λ p. p site) (view-step own (quiet op)) ∙ frame (own_view own) Same op site (aside site away)
         ∙ ap (λ p. p site) here
+
+-- what is known of the whole part after it
+pub whole-aside : (share : Share) (progress then : Progress) (temp after : Option Files) (op : LocalOp) → IsAside op
+    → then ≢ Settled → (current : Option (Option Files)) → own_view (operated share op None).own Temp ≡ after
+    → AllHas (whole_facts current progress temp) share
+    → AllHas (whole_facts current then after) (operated share op None)
+whole-aside share progress then temp after op aside unsettled None is has =
+    none-still then (operated share op None) unsettled
+whole-aside share progress then temp after op aside unsettled (Some current) is has = (
+  whole-here (operated share op None).own _ then unsettled
+      (aside-part share.own op current temp after aside (whole-view share.own _ progress has.0) is),
+  tt,
+)
 
 -- what is gained is let go, where that is all that was held
 pub lets-all : (held : List Blob) → LetsGo held held []

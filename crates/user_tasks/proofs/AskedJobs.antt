@@ -1,6 +1,6 @@
--- A create asks for a job only where it says so, and for no further one once it heard the output.
-use Rattle.std.proofs.Common.{◌≡◌, ℕ, sym, ap, ◌∙◌, subst}
-use Rattle.std.specs.Prelude.{false, Option, Some, None, Result, Ok, Err, IfOk}
+-- A create asks for a job only where it says so, and for fewer once it heard the output.
+use Rattle.std.proofs.Common.{◌≡◌, ℕ, ◌<◌, sym, subst}
+use Rattle.std.specs.Prelude.{Option, Some, None, Result, Ok, Err, IfOk}
 use Rattle.tree_model.specs.declared.blobs.Blob.{Blob}
 use Rattle.tree_model.specs.declared.sites.LocalOp.{LocalOp}
 use Rattle.tree_model.specs.declared.sites.LocalOp.TheVariants.{MakeDir, Write, RenameFile, RenameDir, RemoveFile}
@@ -15,7 +15,7 @@ use Rattle.task_turns.specs.declared.next.Next.{Next}
 use Rattle.task_turns.specs.Turns.{seen_of, Tasks, AsksFor, Asks}
 use Rattle.store_task.specs.declared.turns.Doing.{Doing}
 use Rattle.store_task.specs.declared.turns.Doing.TheVariants.{Work, Generate, Encrypt, Tree, Sync}
-use Rattle.store_task.specs.Task.{Task, after as store_after}
+use Rattle.store_task.specs.Task.{Task, after as store_after, asks_of as store_asks_of}
 use Rattle.store_task.specs.Turns.{AsksFirst, StoreAsks}
 use Rattle.store_task.proofs.AskedJobs.{asked}
 use Rattle.user_tasks.specs.declared.creates.Stage.{Stage}
@@ -43,7 +43,7 @@ module _ {T : Type 0} (tasks : Tasks T) (task : T) (store : Task)
   doing-asks user (Tree op) named change first = op-asks user op named change
   doing-asks user Sync named change first = tt
 
-  store-asks : {E : Type 0} (user : ℕ) (change : Option LocalChange) (result : Result Next E)
+  pub store-asks : {E : Type 0} (user : ℕ) (change : Option LocalChange) (result : Result Next E)
       → IfOk result (IsStoreTurn user store change) → IfOk result (Asks (seen_of tasks task))
   store-asks user change (Ok next) turn =
       subst (Asks (seen_of tasks task)) (sym turn.is) (doing-asks user turn.doing turn.named change turn.asks)
@@ -57,31 +57,29 @@ module _ (create : Creating) where
   output job = Output (output_of job.input)
 
   -- a store task that has the output has not begun its directory, so the create goes on with it
-  ce-once : (job : Job) → AsksFirst create.ce job
-      → asks_of (with_ce create (store_after create.ce (output job))) ≡ false
-  ce-once job first =
-      let is = asked create.ce job first in
-      ap (λ progress. asks_at (after_ce progress) (with_ce create (store_after create.ce (output job)))) is.absent
-      ∙ is.once
+  ce-fewer : (job : Job) → AsksFirst create.ce job
+      → asks_of (with_ce create (store_after create.ce (output job))) < store_asks_of create.ce
+  ce-fewer job first = let is = asked create.ce job first in
+      subst (λ progress. asks_at (after_ce progress) (with_ce create (store_after create.ce (output job)))
+      < store_asks_of create.ce) (sym is.absent) is.fewer
 
-  de-once : (job : Job) → AsksFirst create.de job
-      → asks_of (with_de create (store_after create.de (output job))) ≡ false
-  de-once job first =
-      let is = asked create.de job first in
-      ap (λ progress. asks_at (after_de progress) (with_de create (store_after create.de (output job)))) is.absent
-      ∙ is.once
+  de-fewer : (job : Job) → AsksFirst create.de job
+      → asks_of (with_de create (store_after create.de (output job))) < store_asks_of create.de
+  de-fewer job first = let is = asked create.de job first in
+      subst (λ progress. asks_at (after_de progress) (with_de create (store_after create.de (output job)))
+      < store_asks_of create.de) (sym is.absent) is.fewer
 
   clearing-job : (job : Job) → AsksFirst create.ce job → AsksFor (seen_of creates (staged Clearing)) job
   clearing-job job first = let is = asked create.ce job first in
-      record { asks = is.asks; whole = is.whole; hears = is.hears; once = ce-once job first }
+      record { whole = is.whole; hears = is.hears; fewer = ce-fewer job first }
 
   ce-job : (job : Job) → AsksFirst create.ce job → AsksFor (seen_of creates (staged StoringCe)) job
   ce-job job first = let is = asked create.ce job first in
-      record { asks = is.asks; whole = is.whole; hears = is.hears; once = ce-once job first }
+      record { whole = is.whole; hears = is.hears; fewer = ce-fewer job first }
 
   de-job : (job : Job) → AsksFirst create.de job → AsksFor (seen_of creates (staged StoringDe)) job
   de-job job first = let is = asked create.de job first in
-      record { asks = is.asks; whole = is.whole; hears = is.hears; once = de-once job first }
+      record { whole = is.whole; hears = is.hears; fewer = de-fewer job first }
 
   -- the turns of its store tasks
   module _ {E : Type 0} (result : Result Next E) where

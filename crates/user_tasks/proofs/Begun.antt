@@ -39,8 +39,8 @@ none-present : (present crowded : Bool) → first_due (due present UserExists) (
 none-present true crowded e = cc
 none-present false crowded e = refl
 
-module _ (user : ℕ) (birth : Birth) (boot_seed : List ℕ) (slots : List Slot) (ce_spec de_spec : StoreSpec)
-    (ce_job de_job : ℕ) where
+module _ (user : ℕ) (birth : Birth) (boot_seed : List ℕ) (slots : List Slot) (next : Slot)
+    (ce_spec de_spec : StoreSpec) (ce_job de_job : ℕ) where
   abbrev first_create : Creating
   first_create = record {
     user = user;
@@ -51,14 +51,14 @@ module _ (user : ℕ) (birth : Birth) (boot_seed : List ℕ) (slots : List Slot)
   }
 
   create-begins : IsMadeSpec user birth ForCe boot_seed ce_spec → IsMadeSpec user birth ForDe boot_seed de_spec
-      → Begins (CreateCommand user) birth boot_seed slots (OfCreate first_create)
+      → Begins (CreateCommand user) birth boot_seed slots next (OfCreate first_create)
   create-begins ce_made de_made = record {
     owned = refl;
     few = omega arith;
     makes = omega arith;
     draws = omega arith;
     held = refl;
-    rests = λ facts share present installed accepted seeded given. record {
+    rests = λ facts share present installed accepted seeded known. record {
       of_user = refl;
       accepted = refl;
       serves = record { command = refl; born = refl; changes = refl };
@@ -76,14 +76,15 @@ module _ (user : ℕ) (birth : Birth) (boot_seed : List ℕ) (slots : List Slot)
 
 -- as it is made
 pub first-begins : (user : ℕ) (birth : Birth) (number : ℕ) (boot_seed : List ℕ) (slots : List Slot)
-    (create : Creating) → IsFirst user birth number boot_seed create
-    → Begins (CreateCommand user) birth boot_seed slots (OfCreate create)
-first-begins user birth number boot_seed slots create first =
-    subst (λ it. Begins (CreateCommand user) birth boot_seed slots (OfCreate it)) (sym same)
-    (create-begins user birth boot_seed slots create.ce.spec create.de.spec create.ce.job create.de.job first.ce.made
-    first.de.made)
+    (next : Slot) (create : Creating) → IsFirst user birth number boot_seed create
+    → Begins (CreateCommand user) birth boot_seed slots next (OfCreate create)
+first-begins user birth number boot_seed slots next create first =
+    subst (λ it. Begins (CreateCommand user) birth boot_seed slots next (OfCreate it)) (sym same)
+    (create-begins user birth boot_seed slots next create.ce.spec create.de.spec create.ce.job create.de.job
+    first.ce.made first.de.made)
   where
-    same : create ≡ first_create user birth boot_seed slots create.ce.spec create.de.spec create.ce.job create.de.job
+    same : create ≡ first_create user birth boot_seed slots next create.ce.spec create.de.spec create.ce.job
+        create.de.job
     same = λ i. record {
       user = first.of_user i;
       birth = first.born i;

@@ -1,12 +1,11 @@
 -- Each turn of a create shows what it has to, up to the one that makes its user.
-use Rattle.std.proofs.Common.{◌≡◌, ◌≢◌, ℕ, List, [], ◌∷◌, ◌++◌, refl, sym, ap, ◌∙◌, subst, arith, inl}
-use Rattle.std.specs.Prelude.{true, false, Option, Some, None, is_some, Result, Ok, Err, IfOk}
+use Rattle.std.proofs.Common.{◌≡◌, [], ◌≢◌, ℕ, refl, sym, ap, ◌∙◌, subst, arith, inl}
+use Rattle.std.specs.Prelude.{false, Option, Some, None, is_some, Result, Ok, Err, IfOk}
 use Rattle.tree_model.specs.declared.blobs.Blob.{Blob}
 use Rattle.tree_model.specs.declared.places.Class.TheVariants.{De as ForDe, Ce as ForCe}
 use Rattle.tree_model.specs.declared.places.Place.TheVariants.{De as DePlace, Ce as CePlace}
 use Rattle.tree_model.specs.declared.places.Slot.TheVariants.{Current, Cx}
 use Rattle.tree_model.specs.declared.sites.Site.{Site}
-use Rattle.tree_model.specs.Dir.{Files}
 use Rattle.tree_model.specs.declared.sites.Site.TheVariants.{De, Ce, Temp}
 use Rattle.tree_model.specs.declared.sites.LocalOp.{LocalOp}
 use Rattle.tree_model.specs.declared.sites.LocalOp.TheVariants.{RenameDir, RemoveDir}
@@ -14,7 +13,6 @@ use Rattle.tree_model.specs.Sites.{site_of, touches}
 use Rattle.tree_model.specs.Tree.{kind_if, Drop as DropKind}
 use Rattle.keystore_model.specs.declared.entry.Tag.{Tag}
 use Rattle.journal_model.specs.declared.entries.Birth.{Birth}
-use Rattle.user_world.specs.declared.changes.LocalChange.{LocalChange}
 use Rattle.user_world.specs.declared.changes.LocalChange.TheVariants.{Born}
 use Rattle.user_world.specs.OwnWorlds.{OwnWorld, quiet, own_view, OwnImagesStand}
 use Rattle.user_world.specs.Turns.{StepShows}
@@ -22,15 +20,13 @@ use Rattle.user_world.proofs.OwnWorlds.{keeps-absent, absent-view}
 use Rattle.user_world.proofs.Facts.{knows-step}
 use Rattle.key_directory.specs.Vaults.{sealed}
 use Rattle.task_turns.specs.declared.calls.Answer.{Answer}
-use Rattle.task_turns.specs.declared.calls.Answer.TheVariants.{Done, Directory, Blob as IsBlob, Sealed, Decrypted}
-use Rattle.task_turns.specs.declared.calls.Answer.TheVariants.{Output}
-use Rattle.task_turns.specs.declared.calls.Call.TheVariants.{Op as OpCall, Sync as SyncCall, List as ListCall, Read}
-use Rattle.task_turns.specs.declared.calls.Call.TheVariants.{Generate, Encrypt, Decrypt, Entries, Add, Remove}
+use Rattle.task_turns.specs.declared.calls.Answer.TheVariants.{Done}
+use Rattle.task_turns.specs.declared.calls.Call.TheVariants.{Op as OpCall}
 use Rattle.task_turns.specs.declared.next.Next.{Next}
-use Rattle.task_turns.specs.declared.next.Next.TheVariants.{Call as CallNext, Work as WorkNext, Reply as ReplyNext}
+use Rattle.task_turns.specs.declared.next.Next.TheVariants.{Call as CallNext}
 use Rattle.task_turns.specs.Names.{Gains}
 use Rattle.task_turns.specs.Shares.{Share, Has, AllHas, IsHeld}
-use Rattle.task_turns.specs.Turns.{seen_of, Scene, Cost, Leads, TurnShows, CallShows}
+use Rattle.task_turns.specs.Turns.{seen_of, Scene, TurnShows, CallShows}
 use Rattle.store_task.specs.declared.turns.StoreSpec.{StoreSpec}
 use Rattle.store_task.specs.declared.stages.Stage.{Stage as StoreStage}
 use Rattle.store_task.specs.declared.stages.Stage.TheVariants.{First, Tied, Generated, Storing}
@@ -38,7 +34,6 @@ use Rattle.store_task.specs.declared.stages.Progress.{Progress}
 use Rattle.store_task.specs.declared.stages.Progress.TheVariants.{Absent, Made, Versioned, Discardable, Named, Keyed}
 use Rattle.store_task.specs.declared.stages.Progress.TheVariants.{Settled, Stored}
 use Rattle.store_task.specs.Task.{IsAnswer, Task, held_by, held_at, held_of, progress_of}
-use Rattle.store_task.specs.Task.{AnswersStage}
 use Rattle.store_task.specs.Turns.{TreeShows, PutsInPlace}
 use Rattle.store_task.proofs.HeldBlobs.{sealing-held}
 use Rattle.store_task.proofs.ShownTurns.{off-temp, sealing-stays}
@@ -52,6 +47,7 @@ use Rattle.user_tasks.specs.Stores.{op_turn, IsStoreTurn}
 use Rattle.user_tasks.specs.Tasks.{UserTurns}
 use Rattle.blob_custody.proofs.Steps.{lets-none}
 use Rattle.user_tasks.proofs.AsideOps.{aside-step, aside-gains, debris-gains}
+use Rattle.user_tasks.proofs.Cleared.{IsCleared, not-done, as-cleared}
 use Rattle.user_tasks.proofs.Placing.{IsWritten, written-at, ce-put, de-put}
 use Rattle.user_tasks.proofs.Whole.{same-parts}
 use Rattle.user_tasks.proofs.Writing.{leads-to, IsFramed, store-has, framed-shows}
@@ -106,7 +102,7 @@ module _ (user : ℕ) (birth : Birth) (ce de : Task) where
           ap (λ stage. record (rest_at stage (after (at StoringCe) answer)) { user = user }) (ce-goes_on _ on);
       owner = ap (λ (tag : Tag). tag.user) ce_stores.tagged;
       base_held = (tt, (tt, (tt, tt)));
-      base_stays = λ share op has. (knows-step share.own (quiet op) None has.0, (has.1.0, (has.1.1.0, tt)));
+      base_stays = λ share op aside has. (knows-step share.own (quiet op) None has.0, (has.1.0, (has.1.1.0, tt)));
       behind = omega arith;
     }
 
@@ -119,7 +115,7 @@ module _ (user : ℕ) (birth : Birth) (ce de : Task) where
           ap (λ stage. record (rest_at stage (after (at StoringDe) answer)) { user = user }) (de-goes_on _ on);
       owner = ap (λ (tag : Tag). tag.user) de_stores.tagged;
       base_held = (tt, (tt, (tt, (sealed-held ce.spec ce.stage, tt))));
-      base_stays = λ share op has. (
+      base_stays = λ share op aside has. (
         knows-step share.own (quiet op) None has.0,
         (has.1.0, (has.1.1.0, (sealed-stays ce.spec ce.stage share _ has.1.1.1.0, tt))),
       );
@@ -222,86 +218,29 @@ module _ (user : ℕ) (birth : Birth) (ce de : Task) (ce_stores : Stores user Fo
         (de-placed turn.named turn.holds))
 
 -- what was begun in the stage before
-module _ (user : ℕ) (birth : Birth) (ce de : Task) (scene : Scene) where
-  leads-cleared : (answer : Answer) (note : Option LocalChange) (cost : Cost) (share : Share)
-      → hears (at user birth ce de Clearing) answer
+module _ (user : ℕ) (birth : Birth) (ce de : Task) (first : ce.stage ≡ First) where
+  clearing-hears : (answer : Answer) → IsAnswer ce answer → hears (at user birth ce de Clearing) answer
+  clearing-hears Done answers = tt
+  clearing-hears answer answers = answers
+
+  clearing-after : (answer : Answer) → IsAnswer ce answer
       → after (at user birth ce de Clearing) answer ≡ after (at user birth ce de StoringCe) answer
-      → Leads (seen_of creates (at user birth ce de StoringCe)) answer scene note cost share
-      → Leads (seen_of creates (at user birth ce de Clearing)) answer scene note cost share
-  leads-cleared answer note cost share heard same leads =
-      leads-to creates (at user birth ce de Clearing) answer heard refl (ap create_rest same)
-      (record {
-        facts = leads.facts;
-        known = leads.known;
-        serves = leads.serves;
-        same_user = leads.same_user;
-        falls = leads.falls;
-        makes = leads.makes;
-        draws = leads.draws;
-      })
+  clearing-after Done answers = absurd (not-done ce first answers)
+  clearing-after answer answers = refl
 
-  module _ (first : ce.stage ≡ First) where
-    unheard : (answer : Answer) → IsAnswer ce answer → AnswersStage ce.spec.secret First answer
-    unheard answer answers = subst (λ stage. AnswersStage ce.spec.secret stage answer) first answers
-
-    not-done : IsAnswer ce Done → ⊥
-    not-done answers = unheard Done answers
-
-    not-read : (found : Option Files) → is_some found ≡ true
-        → ((files : Files) → found ≡ Some files → IsAnswer ce (Directory files)) → ⊥
-    not-read None there each = cc
-    not-read (Some files) there each = unheard (Directory files) (each files refl)
-
-    none-held : (gains : List Blob) → held_of ce ++ gains ≡ gains
-    none-held gains = ap (λ stage. held_at stage ++ gains) first
-
-    as-cleared : (next : Next) → TurnShows (seen_of creates (at user birth ce de StoringCe)) scene next
-        → TurnShows (seen_of creates (at user birth ce de Clearing)) scene next
-    as-cleared (CallNext (OpCall owner op names) change) shows = absurd (not-done shows.stands.leads.hears)
-    as-cleared (CallNext SyncCall change) shows = absurd (not-done shows.stands.leads.hears)
-    as-cleared (CallNext ListCall change) shows = absurd shows.stands
-    as-cleared (CallNext (Read place) change) shows =
-        absurd (not-read _ shows.stands.there (λ files is. (shows.stands.each files is).leads.hears))
-    as-cleared (CallNext (Generate tag app_id) change) shows = record {
-      stands = record {
-        quiet = shows.stands.quiet;
-        tagged = shows.stands.tagged;
-        each = λ blob key long none.
-            let each = shows.stands.each blob key long none in record {
-              held = each.held ∙ none-held (blob ∷ []);
-              leads = leads-cleared (IsBlob blob) None _ _ each.leads.hears refl each.leads;
-            };
-      };
-      may = shows.may;
-      lasts = shows.lasts;
-    }
-    as-cleared (CallNext (Encrypt blob app_id nonce key) change) shows = record {
-      stands = (
-        shows.stands.0,
-        record {
-          under = shows.stands.1.under;
-          held = shows.stands.1.held ∙ ap held_at first;
-          leads = leads-cleared (Sealed _) None _ _ shows.stands.1.leads.hears refl shows.stands.1.leads;
-        },
-      );
-      may = shows.may;
-      lasts = shows.lasts;
-    }
-    as-cleared (CallNext (Decrypt blob app_id text) change) shows =
-        absurd (unheard (Decrypted _) shows.stands.leads.hears)
-    as-cleared (CallNext Entries change) shows = absurd shows.stands
-    as-cleared (CallNext (Add owner class key) change) shows = absurd (not-done shows.stands.leads.hears)
-    as-cleared (CallNext (Remove owner class) change) shows = absurd (not-done shows.stands.leads.hears)
-    as-cleared (WorkNext job) shows = record {
-      held = shows.held ∙ ap held_at first;
-      leads = leads-cleared (Output _) None _ _ shows.leads.hears refl shows.leads;
-    }
-    as-cleared (ReplyNext reply) shows = record {
-      outcome = shows.outcome;
-      may = shows.may;
-      lasts = shows.lasts;
-      held = refl;
-    }
+  create-cleared : IsCleared creates (at user birth ce de Clearing) (at user birth ce de StoringCe) ce
+  create-cleared = record {
+    first = first;
+    hears = λ answer answers. answers;
+    heard = clearing-hears;
+    same = clearing-after;
+    user = refl;
+    left = refl;
+    makes = refl;
+    draws = refl;
+    held = ap held_at first;
+    none = refl;
+  }
 
 aside-temp : (site : Site) → site ≢ Temp → touches (RemoveDir Temp) site ≡ false
 aside-temp site away = off-temp site away
@@ -404,7 +343,8 @@ module _ (create : Creating) (is : IsCreating create) (way : Option Site) where
       → UserTurns (OfCreate create) way next
   clear-turn site next here first named = at-stage Clearing next here
       (λ scene sound clear rests. subst (TurnShows (seen_of creates (staged Clearing)) scene) (sym named)
-      (clear-shows scene sound.images rests.facts site (subst (IsNextToClear (own_view scene.share.own)) first clear)
+      (clear-shows scene sound.images rests.facts site
+      (subst (IsNextToClear (own_view scene.share.own)) first clear.clear)
       rests.serves))
 
   pub begin-turn : (next : Next) → create.stage ≡ Clearing → way ≡ None → IsStoreTurn create.user create.ce None next
@@ -412,10 +352,11 @@ module _ (create : Creating) (is : IsCreating create) (way : Option Site) where
   begin-turn next here nothing turn = at-stage Clearing next here
       (λ scene sound clear rests.
       let stages = stage-fits Clearing here in
-      as-cleared create.user create.birth create.ce create.de scene stages.0 next
+      as-cleared creates (staged Clearing) (staged StoringCe) create.ce
+      (create-cleared create.user create.birth create.ce create.de stages.0) scene next
       (ce-shows create.user create.birth create.ce create.de is.ce is.de scene stages.1
       (begun-has scene sound.images rests.facts stages.0
-      (subst (IsNextToClear (own_view scene.share.own)) nothing clear))
+      (subst (IsNextToClear (own_view scene.share.own)) nothing clear.clear))
       (record { command = rests.serves.command; born = rests.serves.born; changes = rests.serves.changes }) next turn))
 
   pub ce-turn : (next : Next) → create.stage ≡ StoringCe → IsStoreTurn create.user create.ce None next

@@ -73,7 +73,11 @@ module _ (create : Creating) (is : IsCreating create) (way : Option Site) where
         stands = record {
           quiet = refl;
           mine = refl;
-          given = record { known = new_record create.birth; there = rests.facts.1.0; given = rests.facts.1.1.0 };
+          given = record {
+            known = new_record create.birth;
+            there = rests.facts.1.0;
+            given = λ sure. rests.facts.1.1.0;
+          };
           may = subst (λ command. Installs command create.user ForDe) (sym rests.serves.command) refl;
           held = refl;
           leads = leads-to creates (staged create InstallingDe) Done refl refl refl (record {
@@ -106,7 +110,11 @@ module _ (create : Creating) (is : IsCreating create) (way : Option Site) where
         stands = record {
           quiet = refl;
           mine = refl;
-          given = record { known = new_record create.birth; there = rests.facts.1.0; given = rests.facts.1.1.1.0 };
+          given = record {
+            known = new_record create.birth;
+            there = rests.facts.1.0;
+            given = λ sure. rests.facts.1.1.1.0;
+          };
           may = subst (λ command. Installs command create.user ForCe) (sym rests.serves.command) refl;
           held = refl;
           leads = leads-to creates (staged create InstallingCe) Done refl refl refl (record {

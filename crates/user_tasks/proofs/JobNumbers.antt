@@ -26,7 +26,7 @@ use Rattle.user_tasks.proofs.CreateTurns.{stage-fits, begun-has}
 use Rattle.user_tasks.specs.declared.tasks.UserTask.TheVariants.{Create as OfCreate}
 
 -- a job of the turn has this number
-abbrev IsJob : ℕ → Next → Type 0
+abbrev pub IsJob : ℕ → Next → Type 0
 IsJob number (WorkNext job) = job.number ≡ number
 IsJob number (CallNext call change) = Unit {0}
 IsJob number (ReplyNext reply) = Unit {0}
@@ -49,7 +49,7 @@ module _ (user : ℕ) (store : Task) (change : Option LocalChange) (share : Shar
   doing-job (Tree op) named shows = op-job store.job user op named change
   doing-job Sync named shows = tt
 
-  store-job : (next : Next) → AllHas (facts_of store) share → IsStoreTurn user store change next
+  pub store-job : (next : Next) → AllHas (facts_of store) share → IsStoreTurn user store change next
       → IsJob store.job next
   store-job next has turn =
       subst (IsJob store.job) (sym turn.is) (doing-job turn.doing turn.named (turn.shows.1 share has))
@@ -83,7 +83,7 @@ module _ (create : Creating) (is : IsCreating create) (way : Option Site) where
   begin-jobs next here nothing turn = at-stage Clearing next here
       (λ scene sound clear rests.
       let has = begun-has create is way scene sound.images rests.facts (stage-fits create is way Clearing here).0
-      (subst (IsNextToClear (own_view scene.share.own)) nothing clear) in
+      (subst (IsNextToClear (own_view scene.share.own)) nothing clear.clear) in
       ce-job create next (store-job create.user create.ce None scene.share next has.1.1.1.1 turn))
 
   pub ce-jobs : (next : Next) → create.stage ≡ StoringCe → IsStoreTurn create.user create.ce None next

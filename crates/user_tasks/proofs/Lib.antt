@@ -2,12 +2,16 @@ mod Whole
 mod NewUsers
 mod AsideOps
 mod Writing
+mod Cleared
+mod Openings
 mod Placing
+mod Further
 mod CreateTurns
 mod Installing
 mod AskedJobs
 mod JobNumbers
 mod LockTurns
 mod UnlockTurns
+mod ProtectTurns
 mod Begun
 mod Refuted

@@ -1,14 +1,10 @@
--- A lock begins wherever its command isn't refused, and each of its turns shows what it has to.
-use Rattle.std.proofs.Common.{◌≡◌, ℕ, List, refl, sym, subst, arith}
+-- Each turn of a lock shows what it has to.
+use Rattle.std.proofs.Common.{◌≡◌, refl, sym, subst, arith}
 use Rattle.std.specs.Prelude.{Option}
 use Rattle.tree_model.specs.declared.places.Class.TheVariants.{Ce as ForCe}
-use Rattle.tree_model.specs.declared.places.Slot.{Slot}
 use Rattle.tree_model.specs.declared.sites.Site.{Site}
-use Rattle.journal_model.specs.declared.commands.Command.TheVariants.{Lock as LockCommand}
 use Rattle.journal_model.specs.declared.commands.Reply.TheVariants.{Done as DoneReply}
-use Rattle.journal_model.specs.declared.entries.Birth.{Birth}
 use Rattle.journal_model.specs.Machine.{DidWork, Evicts}
-use Rattle.keystore_model.proofs.Elements.{Contains-none}
 use Rattle.task_turns.specs.declared.calls.Call.TheVariants.{Remove}
 use Rattle.task_turns.specs.declared.next.Next.{Next}
 use Rattle.task_turns.specs.declared.next.Next.TheVariants.{Reply as ReplyNext}
@@ -17,9 +13,8 @@ use Rattle.user_tasks.specs.declared.locks.Lock.{Lock}
 use Rattle.user_tasks.specs.declared.locks.LockStage.{LockStage}
 use Rattle.user_tasks.specs.declared.locks.LockStage.TheVariants.{Evicting, Ended}
 use Rattle.user_tasks.specs.declared.tasks.UserTask.TheVariants.{Lock as OfLock}
-use Rattle.user_tasks.specs.Lock.{first_lock}
 use Rattle.user_tasks.specs.Stores.{quiet_turn}
-use Rattle.user_tasks.specs.Tasks.{Begins, UserTurns, tasks}
+use Rattle.user_tasks.specs.Tasks.{UserTurns, tasks}
 
 module _ (lock : Lock) where
   abbrev staged : LockStage → Lock
@@ -67,21 +62,3 @@ module _ (lock : Lock) where
   pub asks-none : (next : Next) → next ≡ quiet_turn (Remove lock.user ForCe)
       → Asks (seen_of tasks (OfLock lock)) next
   asks-none next named = subst (Asks (seen_of tasks (OfLock lock))) (sym named) tt
-
-pub lock-begins : (user : ℕ) (birth : Birth) (boot_seed : List ℕ) (slots : List Slot)
-    → Begins (LockCommand user) birth boot_seed slots (OfLock (first_lock user))
-lock-begins user birth boot_seed slots = record {
-  owned = refl;
-  few = omega arith;
-  makes = omega arith;
-  draws = omega arith;
-  held = refl;
-  rests = λ facts share present installed accepted seeded given. record {
-    of_user = refl;
-    accepted = refl;
-    serves = record { command = refl };
-    facts = tt;
-    known = tt;
-    owned = λ blob none. absurd (Contains-none blob none);
-  };
-}

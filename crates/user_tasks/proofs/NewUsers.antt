@@ -1,7 +1,7 @@
 -- The rename that makes a user: both directories open to the keys of the birth, and the user's directories name the
 -- two blobs that were held.
 use Rattle.std.proofs.Common.{◌≡◌, ℕ, List, [], ◌∷◌, refl, sym, ap, ◌∙◌, subst, inr}
-use Rattle.std.specs.Prelude.{Option, Some}
+use Rattle.std.specs.Prelude.{Option, Some, None}
 use Rattle.std.proofs.lemmas.Option.{same_Some}
 use Rattle.tree_model.specs.declared.blobs.Blob.{Blob}
 use Rattle.tree_model.specs.declared.places.Class.{Class}
@@ -26,16 +26,33 @@ use Rattle.blob_custody.specs.Operations.{IsUnborn}
 use Rattle.blob_custody.proofs.Names.{absent}
 use Rattle.blob_custody.proofs.Renamings.{whole-rename, birth-names, birth-has}
 use Rattle.key_directory.specs.Opens.{opens}
-use Rattle.key_directory.specs.Vaults.{Vault, tag_at, NamesOwn, SealedStands, sealed}
+use Rattle.key_directory.specs.Vaults.{Attempts, Vault, tag_at, NamesOwn, SealedStands, sealed}
 use Rattle.key_directory.specs.VaultLaws.{OpenBoth, two_directories}
 use Rattle.key_directory.proofs.Births.{births-stand}
 use Rattle.task_turns.specs.Names.{Gains}
 use Rattle.task_turns.specs.Shares.{Share, Has, Given}
+use Rattle.store_task.specs.declared.turns.StoreSpec.{StoreSpec}
 use Rattle.store_task.specs.Task.{Task, IsTask, IsBoundBy, all_files, sealing}
 use Rattle.store_task.proofs.StoredFiles.{files-open, files-named, names-own}
 use Rattle.user_tasks.specs.Create.{new_record}
 use Rattle.user_tasks.specs.Stores.{part}
 use Rattle.user_tasks.proofs.Whole.{same-parts}
+
+-- how a key is sealed is no matter of what was tried
+pub sealing-tried : (spec : StoreSpec) (blob : Option Blob) (text : List ℕ) (share : Share)
+    (attempts : ℕ → Attempts) → Has (sealing spec blob text) share
+    → Has (sealing spec blob text) (record share { vault = record share.vault { attempts = attempts } })
+sealing-tried spec None text share attempts has = has
+sealing-tried spec (Some blob) text share attempts has = record {
+  keyed = record {
+    entry = has.keyed.entry;
+    live = has.keyed.live;
+    bound = has.keyed.bound;
+    tagged = has.keyed.tagged;
+    current = has.keyed.current;
+  };
+  sealed_so = has.sealed_so;
+}
 
 -- a directory that is stored under an entry of the keystore, and holds the right key
 pub record IsKept (share : Share) (user : ℕ) (birth : Birth) (class : Class) (task : Task) : Type 0 where

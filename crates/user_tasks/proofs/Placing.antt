@@ -27,7 +27,7 @@ use Rattle.task_turns.specs.declared.calls.Answer.TheVariants.{Done}
 use Rattle.task_turns.specs.declared.calls.Call.TheVariants.{Op as OpCall}
 use Rattle.task_turns.specs.Names.{BringsBlob}
 use Rattle.task_turns.specs.Shares.{Share, AllHas}
-use Rattle.task_turns.specs.Turns.{seen_of, Scene, operated, CallShows}
+use Rattle.task_turns.specs.Turns.{seen_of, Scene, operated, noting, CallShows, evidence_in}
 use Rattle.store_task.specs.declared.turns.StoreSpec.{StoreSpec}
 use Rattle.store_task.specs.declared.stages.Stage.{Stage as StoreStage}
 use Rattle.store_task.specs.declared.stages.Stage.TheVariants.{First, Tied, Generated, Storing}
@@ -41,21 +41,24 @@ use Rattle.user_tasks.specs.Create.{Creating, Stores, IsCreate, create_rest, cre
 use Rattle.user_tasks.specs.Stores.{part}
 use Rattle.blob_custody.proofs.Steps.{lets-none}
 use Rattle.user_tasks.proofs.AsideOps.{absent-gains, lets-all}
-use Rattle.user_tasks.proofs.NewUsers.{IsKept, keeps-born, born-gains}
+use Rattle.user_tasks.proofs.NewUsers.{sealing-tried, IsKept, keeps-born, born-gains}
 use Rattle.user_tasks.proofs.Whole.{same-parts, always-here}
 use Rattle.user_tasks.proofs.Writing.{leads-to}
 
--- the blob of a task that holds one
-held-named : (named : Option Blob) (blob : Blob) → held_by named ≡ blob ∷ [] → named ≡ Some blob
-held-named None blob is = cc
-held-named (Some one) blob is = let same : one ≡ blob = cc in ap Some same
+-- a task that holds as much holds the same blob
+held-same : (named blob : Option Blob) → held_by named ≡ held_by blob → named ≡ blob
+held-same None None is = refl
+held-same None (Some blob) is = cc
+held-same (Some named) None is = cc
+held-same (Some named) (Some blob) is = let same : named ≡ blob = cc in ap Some same
 
 -- a rename brings the blob that the task holds
-held-brings : (view : Part) (target : Site) (named : Option Blob) (blob : Blob) → held_by named ≡ blob ∷ []
-    → length blob ≡ 32 → Some blob ≡ named_at (view Temp) → BringsBlob view (RenameDir Temp target) named
+pub held-brings : (view : Part) (target : Site) (named blob : Option Blob) → held_by named ≡ held_by blob
+    → IfSome blob (λ one. length one ≡ 32) → blob ≡ named_at (view Temp)
+    → BringsBlob view (RenameDir Temp target) named
 held-brings view target named blob holds long is = record {
-  brings = held-named named blob holds ∙ is;
-  long = subst (λ found. IfSome found (λ one. length one ≡ 32)) (sym (held-named named blob holds)) long;
+  brings = held-same named blob holds ∙ is;
+  long = subst (λ found. IfSome found (λ one. length one ≡ 32)) (sym (held-same named blob holds)) long;
 }
 
 -- what the written task is known by
@@ -120,7 +123,7 @@ module _ (user : ℕ) (birth : Birth) (ce_spec de_spec : StoreSpec) (ce_job de_j
             keeps = keeps-absent (sealed scene.share.vault) user scene.share.own put_ce has.0 refl;
             leads = tt;
           };
-          brings = held-brings (own_view scene.share.own) (Ce Current) named blob holds long
+          brings = held-brings (own_view scene.share.own) (Ce Current) named (Some blob) holds long
               (sym (files-named ce_spec.discard (Some blob) text) ∙ sym (ap (λ p. named_at (p Temp)) view-ce));
           gains = [];
           gained = absent-gains scene.share.own put_ce refl (λ left is. ap (λ p. p De) (has.1.1.1.0 left is));
@@ -186,7 +189,11 @@ module _ (user : ℕ) (birth : Birth) (ce_spec de_spec : StoreSpec) (ce_job de_j
     module _ (scene : Scene) (has : AllHas (create_rest putting_de).facts scene.share)
         (ce_stores : Stores user ForCe (CePlace user Current) (stored_ce ce_blob ce_text Stored))
         (de_stores : Stores user ForDe (DePlace user) settled_de) where
-      abbrev ce-kept : IsKept scene.share user birth ForCe (stored_ce ce_blob ce_text Stored)
+      -- what directories are opened with once the birth is noted
+      abbrev noted : Share
+      noted = record scene.share { vault = noting user scene (Some (Born birth)) }
+
+      abbrev ce-kept : IsKept noted user birth ForCe (stored_ce ce_blob ce_text Stored)
       ce-kept = record {
         whole = ce_stores.whole;
         tagged = ce_stores.tagged;
@@ -194,11 +201,11 @@ module _ (user : ℕ) (birth : Birth) (ce_spec de_spec : StoreSpec) (ce_job de_j
         blob = ce_blob;
         sealed = ce_text;
         bound = ce_stores.whole.stage;
-        has = has.1.1.1.0;
+        has = sealing-tried ce_spec (Some ce_blob) ce_text scene.share noted.vault.attempts has.1.1.1.0;
         given = has.1.0;
       }
 
-      abbrev de-kept : IsKept scene.share user birth ForDe settled_de
+      abbrev de-kept : IsKept noted user birth ForDe settled_de
       de-kept = record {
         whole = de_stores.whole;
         tagged = de_stores.tagged;
@@ -206,7 +213,7 @@ module _ (user : ℕ) (birth : Birth) (ce_spec de_spec : StoreSpec) (ce_job de_j
         blob = de_blob;
         sealed = de_text;
         bound = de_stores.whole.stage;
-        has = has.1.1.1.1.1.0;
+        has = sealing-tried de_spec (Some de_blob) de_text scene.share noted.vault.attempts has.1.1.1.1.1.0;
         given = has.1.1.0;
       }
 
@@ -226,7 +233,7 @@ module _ (user : ℕ) (birth : Birth) (ce_spec de_spec : StoreSpec) (ce_job de_j
             keeps = keeps-born ce-kept de-kept scene.share.own has.1.1.1.1.0;
             leads = tt;
           };
-          brings = held-brings (own_view scene.share.own) De named de_blob holds de_stores.whole.stage.1
+          brings = held-brings (own_view scene.share.own) De named (Some de_blob) holds de_stores.whole.stage.1
               (sym (files-named de_spec.discard (Some de_blob) de_text) ∙ sym (ap (λ p. named_at (p Temp)) view-both));
           gains = ce_blob ∷ de_blob ∷ [];
           gained = born-gains ce-kept de-kept scene.share.own has.1.1.1.1.0;
@@ -252,7 +259,7 @@ module _ (user : ℕ) (birth : Birth) (ce_spec de_spec : StoreSpec) (ce_job de_j
             draws = omega arith;
           });
         };
-        may = subst (λ command. AllowsChange scene.boot scene.began command (CreateChange user birth))
-            (sym serves.command) (serves.changes, ap (CreateChange user) serves.born);
+        may = subst (λ command. AllowsChange (evidence_in user scene.share) scene.boot scene.began command
+            (CreateChange user birth)) (sym serves.command) (serves.changes, ap (CreateChange user) serves.born);
         lasts = omega arith;
       }

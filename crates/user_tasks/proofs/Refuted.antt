@@ -6,7 +6,8 @@ use Rattle.std.proofs.lemmas.Option.{none-some, same_Some}
 use Rattle.tree_model.specs.declared.blobs.Blob.{Blob}
 use Rattle.tree_model.specs.declared.places.Class.{Class}
 use Rattle.tree_model.specs.declared.places.Class.TheVariants.{De as ForDe, Ce as ForCe}
-use Rattle.tree_model.specs.declared.sites.Site.TheVariants.{De, Temp}
+use Rattle.tree_model.specs.declared.places.Slot.TheVariants.{Current}
+use Rattle.tree_model.specs.declared.sites.Site.TheVariants.{De, Ce, Temp}
 use Rattle.tree_model.specs.declared.sites.LocalOp.TheVariants.{RenameDir}
 use Rattle.tree_model.specs.Dir.{Files}
 use Rattle.tree_model.specs.Parts.{Part, after_local}
@@ -22,6 +23,7 @@ use Rattle.keystore_model.proofs.Stores.{bytes-same, bytes-apart}
 use Rattle.user_world.specs.declared.changes.LocalChange.TheVariants.{Born}
 use Rattle.user_world.specs.Meaning.{PartStands}
 use Rattle.user_world.specs.OwnWorlds.{OwnWorld, OwnImagesStand, settled}
+use Rattle.blob_custody.proofs.Names.{absent}
 use Rattle.blob_custody.proofs.Renamings.{whole-rename}
 use Rattle.key_directory.specs.Vaults.{Vault, sealed}
 use Rattle.task_turns.specs.Shares.{IsSound, IsSealedFor}
@@ -32,6 +34,7 @@ use Rattle.store_task.specs.Task.{IsTask, all_files}
 use Rattle.store_task.proofs.StoredFiles.{files-named}
 use Rattle.user_tasks.specs.declared.creates.Stage.{Stage}
 use Rattle.user_tasks.specs.declared.creates.Stage.TheVariants.{StoringDe, Created, InstallingDe}
+use Rattle.user_tasks.specs.Clearing.{Finds}
 use Rattle.user_tasks.specs.Create.{new_record, create_rest, changes_at}
 use Rattle.user_tasks.specs.Stores.{part}
 use Rattle.user_tasks.specs.WrongPlans.{Plan, spec_of, text_of, blob_of, task_at, create_at, RepliesBeforeSync}
@@ -129,7 +132,13 @@ module _ (plan : Plan) where
   sound-in own images = record {
     images = images;
     current = λ blob entry is. same-level _ _ entry is;
-    bare = λ added among. Contains-none added among;
+  }
+
+  -- the temporary directory is in the way, and no directory stands that names a blob
+  finds-temp : Finds both_in (plan.ce_blob ∷ plan.de_blob ∷ []) (Some Temp)
+  finds-temp = record {
+    clear = (tt, refl, λ away. absurd (away refl));
+    unnamed = λ blob has names. absent (both_in De) refl names.present;
   }
 
   settled-rests : Rests (create_rest (create_at plan Settled StoringDe)) plan.birth.boot
@@ -185,6 +194,13 @@ module _ (plan : Plan) where
     stable = both_in;
     durable = [];
     pending = record { op = RenameDir Temp De; note = Some (Born plan.birth) } ∷ [];
+  }
+
+  -- once the user is there the current credential directory is in the way, and no blob is held
+  finds-slot : Finds (after_local both_in (RenameDir Temp De)) [] (Some (Ce Current))
+  finds-slot = record {
+    clear = (tt, refl, λ away. refl);
+    unnamed = λ blob none. absurd (Contains-none blob none);
   }
 
   created-rests : Rests (create_rest (create_at plan Stored Created)) plan.birth.boot
@@ -277,43 +293,43 @@ no-cons x xs e = cc
 pub replies-before-sync : RepliesBeforeSync
 replies-before-sync plan turns =
     let shows = turns (scene_at plan Created (pending_birth plan))
-    (sound-in plan (pending_birth plan) (created-stands plan)) (tt, refl)
+    (sound-in plan (pending_birth plan) (created-stands plan)) (finds-slot plan)
     (created-rests plan) in no-cons (Born plan.birth) [] shows.may.1.1
 
 pub leaves-out-device : LeavesOutDevice
 leaves-out-device plan turns =
-    let shows = turns (scene_at plan StoringDe (still plan)) (sound-in plan (still plan) refl) (tt, refl)
+    let shows = turns (scene_at plan StoringDe (still plan)) (sound-in plan (still plan) refl) (finds-temp plan)
     (settled-rests plan) in
     no-cons plan.ce_blob (plan.de_blob ∷ []) shows.held
 
 pub hides-change : HidesChange
 hides-change plan turns =
-    let shows = turns (scene_at plan StoringDe (still plan)) (sound-in plan (still plan) refl) (tt, refl)
+    let shows = turns (scene_at plan StoringDe (still plan)) (sound-in plan (still plan) refl) (finds-temp plan)
     (settled-rests plan) in
     none-some _ (sym shows.stands.step.noted)
 
 pub hides-blob : HidesBlob
 hides-blob plan turns =
-    let shows = turns (scene_at plan StoringDe (still plan)) (sound-in plan (still plan) refl) (tt, refl)
+    let shows = turns (scene_at plan StoringDe (still plan)) (sound-in plan (still plan) refl) (finds-temp plan)
     (settled-rests plan) in
     none-some plan.de_blob (shows.stands.brings.brings
     ∙ files-named (spec_of plan ForDe).discard (Some plan.de_blob) (text_of plan ForDe))
 
 pub touches-other : TouchesOther
 touches-other plan other apart turns =
-    apart (turns (scene_at plan StoringDe (still plan)) (sound-in plan (still plan) refl) (tt, refl)
+    apart (turns (scene_at plan StoringDe (still plan)) (sound-in plan (still plan) refl) (finds-temp plan)
     (settled-rests plan)).stands.mine
 
 pub replies-before-keys : RepliesBeforeKeys
 replies-before-keys plan turns =
     let shows = turns (scene_at plan InstallingDe (lasting_birth plan))
-    (sound-in plan (lasting_birth plan) (lasting-stands plan)) (tt, refl)
+    (sound-in plan (lasting_birth plan) (lasting-stands plan)) (finds-slot plan)
     (installing-rests plan) in false≢true shows.may.2.1
 
 pub installs-other : InstallsOther
 installs-other plan key differ turns =
     let given = (turns (scene_at plan InstallingDe (lasting_birth plan))
-    (sound-in plan (lasting_birth plan) (lasting-stands plan)) (tt, refl)
+    (sound-in plan (lasting_birth plan) (lasting-stands plan)) (finds-slot plan)
     (installing-rests plan)).stands.given in
-    differ (given.given
+    differ (given.given tt
     ∙ sym (ap (λ (known : Record). key_of plan.seed ForDe plan.user known.birth) (same_Some _ _ given.there)))

@@ -18,15 +18,14 @@ use Rattle.step_core.specs.declared.jobs.JobOutput.TheVariants.{AppId as IsAppId
 use Rattle.step_core.specs.Jobs.{output_of}
 use Rattle.user_world.specs.declared.changes.LocalChange.{LocalChange}
 use Rattle.user_world.specs.OwnWorlds.{own_view}
-use Rattle.user_world.specs.Facts.{Holds}
 use Rattle.user_world.specs.Turns.{with_note}
-use Rattle.user_world.proofs.Facts.{always-settled}
-use Rattle.key_directory.specs.Vaults.{sealed}
+use Rattle.key_directory.specs.Vaults.{Attempts, Extends, sealed}
 use Rattle.task_turns.specs.declared.calls.Answer.{Answer}
 use Rattle.task_turns.specs.declared.calls.Answer.TheVariants.{Done, Blob as IsBlob, Sealed, Output}
 use Rattle.task_turns.specs.declared.calls.Call.TheVariants.{Op as OpCall, Sync as SyncCall}
 use Rattle.task_turns.specs.Shares.{Share, ShareFact, AllHas, LaterShare, IsHeld, AreHeld}
-use Rattle.task_turns.specs.Shares.{Own, KeyFor, SealedFor, Same, Given, HasKey, LeftToTry, Opens}
+use Rattle.task_turns.specs.Shares.{Own, KeyFor, SealedFor, Same, Given, Drawn, Gave, NextSlot, HasKey, LeftToTry}
+use Rattle.task_turns.specs.Shares.{Opens}
 use Rattle.task_turns.specs.Turns.{seen_of, Rest, Tasks, Scene, Cost, no_cost, operated, synced, with_entry, Leads}
 use Rattle.task_turns.specs.Turns.{CallShows, GenerateShows, EncryptShows, WorkShows, TurnShows}
 use Rattle.task_turns.proofs.Lasting.{facts-last}
@@ -44,10 +43,10 @@ use Rattle.store_task.specs.Turns.{EncryptShows as StoreEncrypt, TreeShows, Sync
 use Rattle.store_task.specs.Turns.{PutsInPlace, DoingShows}
 use Rattle.store_task.proofs.HeldBlobs.{blobs-held}
 use Rattle.store_task.proofs.Places.{temp-written}
-use Rattle.user_tasks.specs.Stores.{Frame, rest_in, part, whole_at, op_turn, turn_of}
+use Rattle.user_tasks.specs.Stores.{Frame, rest_in, whole_facts, op_turn, turn_of}
 use Rattle.blob_custody.proofs.Steps.{lets-none}
-use Rattle.user_tasks.proofs.AsideOps.{aside-brings, aside-turn, aside-step, aside-gains, aside-part}
-use Rattle.user_tasks.proofs.Whole.{whole-view, whole-here, whole-always, part-temp}
+use Rattle.user_tasks.proofs.AsideOps.{IsAside, aside-brings, aside-turn, aside-step, aside-gains, whole-aside}
+use Rattle.user_tasks.proofs.Whole.{whole-held, whole-prepared, whole-synced}
 
 -- facts of two lists
 has-both : (facts more : List ShareFact) (share : Share) → AllHas facts share → AllHas more share
@@ -71,6 +70,9 @@ held-fact held more among (KeyFor blob app_id tag) is = among blob is
 held-fact held more among (SealedFor blob app_id tag nonce key text) is = among blob is
 held-fact held more among (Same a b) is = tt
 held-fact held more among (Given key class user birth) is = tt
+held-fact held more among (Drawn nonce discard user made) is = tt
+held-fact held more among (Gave user secret) is = tt
+held-fact held more among (NextSlot slot) is = tt
 held-fact held more among (HasKey class there) is = tt
 held-fact held more among (LeftToTry secret left) is = tt
 held-fact held more among (Opens secret key) is = tt
@@ -170,6 +172,10 @@ absent-goes_on progress is e = let same : Absent ≡ Stored = sym is ∙ e in cc
 settled-goes_on : (progress : Progress) → progress ≡ Settled → progress ≢ Stored
 settled-goes_on progress is e = let same : Settled ≡ Stored = sym is ∙ e in cc
 
+-- as much was tried
+none-more : (attempts : Attempts) → Extends attempts attempts
+none-more attempts = record { additions = λ added has. has; secrets = λ secret has. has }
+
 -- a sync and a further entry leave a share that is later
 later-synced : (held : List Blob) (share : Share) → LaterShare held share (synced share)
 later-synced held share =
@@ -177,6 +183,7 @@ later-synced held share =
       own = inr refl;
       level = refl;
       seed = refl;
+      attempts = λ user. none-more (share.vault.attempts user);
       keys = refl;
       kept = λ blob has entry live. live;
       named = λ blob names entry live. live;
@@ -188,6 +195,7 @@ later-entered held share blob tag app_id key none = record {
   own = inl refl;
   level = refl;
   seed = refl;
+  attempts = λ user. none-more (share.vault.attempts user);
   keys = refl;
   kept = λ other has. stays other;
   named = λ other names. stays other;
@@ -237,7 +245,7 @@ pub record IsFramed {T : Type 0} (tasks : Tasks T) (task : T) (frame : Frame) (s
   pub owner : store.spec.tag.user ≡ frame.user
   -- what it else rests on lasts: it holds the blobs of that, and the store task's operations don't touch it
   pub base_held : AreHeld frame.before frame.base
-  pub base_stays : (share : Share) (op : LocalOp) → AllHas frame.base share
+  pub base_stays : (share : Share) (op : LocalOp) → IsAside op → AllHas frame.base share
       → AllHas frame.base (operated share op None)
   -- the store task's turns are not its last
   pub behind : 0 < frame.turns
@@ -251,28 +259,35 @@ module _ {T : Type 0} (tasks : Tasks T) (task : T) (frame : Frame) (store : Task
   base-later : (share : Share) → LaterShare frame.before scene.share share → AllHas frame.base share
   base-later share later = facts-last frame.base frame.before scene.share share later framed.base_held base-has
 
-  pub store-has : AllHas (facts_of store) scene.share
-  store-has = (has-rest frame.base _ scene.share has).1
+  -- what is known of the whole part, with the store task so far
+  abbrev whole_with : Task → List ShareFact
+  whole_with then = whole_facts frame.current (progress_of then.stage) (temp_of then)
 
-  pub view-is : own_view scene.share.own ≡ part frame.current (temp_of store)
-  view-is = whole-view scene.share.own _ (progress_of store.stage) (has-rest frame.base _ scene.share has).0
+  whole-has : AllHas (whole_with store) scene.share
+  whole-has = has-first (whole_with store) (facts_of store) scene.share (has-rest frame.base _ scene.share has)
+
+  whole-later : (share : Share) → LaterShare frame.before scene.share share → AllHas (whole_with store) share
+  whole-later share later = facts-last (whole_with store) frame.before scene.share share later
+      (whole-held frame.before frame.current (progress_of store.stage) (temp_of store)) whole-has
+
+  pub store-has : AllHas (facts_of store) scene.share
+  store-has = has-rest (whole_with store) (facts_of store) scene.share (has-rest frame.base _ scene.share has)
 
   known-in : (then : Task) → AreHeld (rest_in frame then).held (rest_in frame then).facts
   known-in then = held-both (frame.before ++ held_of then) frame.base _
       (held-more frame.before _ (λ blob is. Contains-append_left frame.before (held_of then) blob is) frame.base
-      framed.base_held) (
-        tt,
-        held-more (held_of then) _ (λ blob is. Contains-append_right frame.before (held_of then) blob is)
-            (facts_of then) (blobs-held then),
-      )
+      framed.base_held)
+      (held-both (frame.before ++ held_of then) (whole_with then) (facts_of then)
+      (whole-held _ frame.current (progress_of then.stage) (temp_of then))
+      (held-more (held_of then) _ (λ blob is. Contains-append_right frame.before (held_of then) blob is)
+      (facts_of then) (blobs-held then)))
 
   -- the store task goes on, and what else the command rests on holds still
   record GoesOn (answer : Answer) (cost : Cost) (share : Share) : Type 0 where
     leads : StoreLeads store answer share
     on : progress_of (store_after store answer).stage ≢ Stored
     base : AllHas frame.base share
-    whole : Holds (whole_at (progress_of (store_after store answer).stage)
-        (part frame.current (temp_of (store_after store answer)))) share.own
+    whole : AllHas (whole_with (store_after store answer)) share
     makes : makes_of (store_after store answer) + cost.makes ≤ makes_of store
     draws : draws_of (store_after store answer) + cost.draws ≤ draws_of store
 
@@ -282,7 +297,8 @@ module _ {T : Type 0} (tasks : Tasks T) (task : T) (frame : Frame) (store : Task
       leads-to tasks task answer (framed.hears answer goes.leads.answers) framed.rests
       (framed.goes_on answer goes.leads.answers goes.on)
       (record {
-        facts = has-both frame.base _ share goes.base (goes.whole, goes.leads.facts);
+        facts = has-both frame.base _ share goes.base
+            (has-both (whole_with (store_after store answer)) _ share goes.whole goes.leads.facts);
         known = known-in (store_after store answer);
         serves = serves;
         same_user = refl;
@@ -316,10 +332,10 @@ module _ {T : Type 0} (tasks : Tasks T) (task : T) (frame : Frame) (store : Task
     prepared-on : progress_of (store_after store answer).stage ≢ Stored
     prepared-on = absent-goes_on _ prepares.then_absent
 
-    prepared-whole : Holds (whole_at (progress_of (store_after store answer).stage)
-        (part frame.current (temp_of (store_after store answer)))) scene.share.own
-    prepared-whole = whole-here scene.share.own _ _ (absent-unsettled _ prepares.then_absent)
-        (view-is ∙ ap (part frame.current) (prepares.nothing ∙ sym prepares.then_nothing))
+    prepared-whole : (share : Share) → AllHas (whole_with store) share
+        → AllHas (whole_with (store_after store answer)) share
+    prepared-whole share before = whole-prepared share (progress_of store.stage) _ (temp_of store) _ frame.current
+        (absent-unsettled _ prepares.then_absent) (prepares.nothing ∙ sym prepares.then_nothing) before
 
     prepared-makes : makes_of (store_after store answer) + 0 ≤ makes_of store
     prepared-makes =
@@ -337,7 +353,7 @@ module _ {T : Type 0} (tasks : Tasks T) (task : T) (frame : Frame) (store : Task
           leads = shows.leads;
           on = prepared-on answer [] 0 prepares;
           base = base-has;
-          whole = prepared-whole answer [] 0 prepares;
+          whole = prepared-whole answer [] 0 prepares scene.share whole-has;
           makes = prepared-makes answer [] 0 prepares;
           draws = prepares.spent;
         });
@@ -357,7 +373,8 @@ module _ {T : Type 0} (tasks : Tasks T) (task : T) (frame : Frame) (store : Task
             leads = leads;
             on = on;
             base = base-later _ (later-entered frame.before scene.share blob tag app_id key none);
-            whole = prepared-whole (IsBlob blob) (blob ∷ []) 1 prepares;
+            whole = prepared-whole (IsBlob blob) (blob ∷ []) 1 prepares _
+                (whole-later _ (later-entered frame.before scene.share blob tag app_id key none));
             makes = prepared-makes (IsBlob blob) (blob ∷ []) 1 prepares;
             draws = prepares.spent;
           });
@@ -381,7 +398,7 @@ module _ {T : Type 0} (tasks : Tasks T) (task : T) (frame : Frame) (store : Task
           leads = shows.leads;
           on = on;
           base = base-has;
-          whole = prepared-whole (Sealed _) [] 0 prepares;
+          whole = prepared-whole (Sealed _) [] 0 prepares scene.share whole-has;
           makes = prepared-makes (Sealed _) [] 0 prepares;
           draws = prepares.spent;
         });
@@ -404,10 +421,10 @@ module _ {T : Type 0} (tasks : Tasks T) (task : T) (frame : Frame) (store : Task
           leads = goes-leads Done _ (operated scene.share op None) (record {
             leads = leads;
             on = aside.goes_on;
-            base = framed.base_stays scene.share op base-has;
-            whole = whole-here _ _ _ aside.unsynced
-                (aside-part scene.share.own op frame.current (temp_of store) _ aside.apart view-is
-                (temp-written (operated scene.share op None) (store_after store Done) leads.facts));
+            base = framed.base_stays scene.share op aside.apart base-has;
+            whole = whole-aside scene.share (progress_of store.stage) _ (temp_of store) _ op aside.apart
+                aside.unsynced frame.current
+                (temp-written (operated scene.share op None) (store_after store Done) leads.facts) whole-has;
             makes = shows.makes;
             draws = let kept : draws_of (store_after store Done) ≡ draws_of store =
                 done-draws store.spec.discard store.spec.secret store.stage leads.answers in omega (arith, kept);
@@ -429,10 +446,8 @@ module _ {T : Type 0} (tasks : Tasks T) (task : T) (frame : Frame) (store : Task
             leads = leads;
             on = on;
             base = base-later _ (later-synced frame.before scene.share);
-            whole = whole-always _ _ _ shows.settles
-                (always-settled scene.share.own _
-                (part-temp (own_view scene.share.own) frame.current (temp_of store) _ view-is
-                (temp-written (synced scene.share) (store_after store Done) leads.facts)));
+            whole = whole-synced scene.share (progress_of store.stage) _ (temp_of store) _ frame.current shows.settles
+                (temp-written (synced scene.share) (store_after store Done) leads.facts) whole-has;
             makes = let none : makes_of (store_after store Done) ≡ 0 = ap makes_in shows.settles in
                 omega (arith, none);
             draws = let kept : draws_of (store_after store Done) ≡ draws_of store =

@@ -1,5 +1,5 @@
 -- A create as a task over its user's share of the devices: the facts that each stage rests on.
-use Rattle.std.specs.Prelude.{◌≡◌, ◌≢◌, Bool, true, false, ℕ, ◌+◌, List, [], ◌∷◌, ◌++◌, Option, Some, None}
+use Rattle.std.specs.Prelude.{◌≡◌, ◌≢◌, true, ℕ, ◌+◌, List, [], ◌∷◌, ◌++◌, Option, Some, None}
 use Rattle.tree_model.specs.declared.blobs.Blob.{Blob}
 use Rattle.tree_model.specs.declared.places.Class.{Class}
 use Rattle.tree_model.specs.declared.places.Class.TheVariants.{De as ForDe, Ce as ForCe}
@@ -109,7 +109,7 @@ abbrev pub ce_frame : Creating → Frame
 ce_frame create = record {
   user = create.user;
   base = on_its_way create [];
-  current = None;
+  current = Some None;
   before = [];
   serves = IsCreate create.user create.birth StoringCe;
   turns = turns_of create.de + 4;
@@ -122,7 +122,7 @@ abbrev pub de_frame : Creating → Frame
 de_frame create = record {
   user = create.user;
   base = on_its_way create (sealed_at create.ce.spec create.ce.stage ∷ []);
-  current = stored_at create.ce.spec create.ce.stage;
+  current = Some (stored_at create.ce.spec create.ce.stage);
   before = held_of create.ce;
   serves = IsCreate create.user create.birth StoringDe;
   turns = 4;
@@ -222,17 +222,14 @@ hears_at Ended create answer = ⊥
 abbrev pub hears : Creating → Answer → Type 0
 hears create answer = hears_at create.stage create answer
 
--- whether it asks for a job next
-abbrev pub asks_at : Stage → Creating → Bool
+-- how many jobs it asks for next
+abbrev pub asks_at : Stage → Creating → ℕ
 asks_at Clearing create = store_asks_of create.ce
 asks_at StoringCe create = store_asks_of create.ce
 asks_at StoringDe create = store_asks_of create.de
-asks_at Created create = false
-asks_at InstallingDe create = false
-asks_at InstallingCe create = false
-asks_at Ended create = false
+asks_at stage create = 0
 
-abbrev pub asks_of : Creating → Bool
+abbrev pub asks_of : Creating → ℕ
 asks_of create = asks_at create.stage create
 
 abbrev pub creates : Tasks Creating

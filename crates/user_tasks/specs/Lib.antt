@@ -3,6 +3,7 @@ pub mod Create
 pub mod Lock
 pub mod Unlock
 pub mod Made
+pub mod Protect
 pub mod Stores
 pub mod Tasks
 pub mod WrongPlans

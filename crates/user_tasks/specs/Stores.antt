@@ -1,12 +1,12 @@
 -- The turns of a store task as turns of its user's command, and what the command rests on between them.
-use Rattle.std.specs.Prelude.{◌≡◌, ℕ, ◌+◌, List, ◌∷◌, ◌++◌, Option, Some, None}
+use Rattle.std.specs.Prelude.{◌≡◌, ℕ, ◌+◌, List, [], ◌∷◌, ◌++◌, Option, Some, None}
 use Rattle.tree_model.specs.declared.blobs.Blob.{Blob}
 use Rattle.tree_model.specs.declared.places.Slot.TheVariants.{Current}
 use Rattle.tree_model.specs.declared.sites.Site.TheVariants.{Ce, Temp}
 use Rattle.tree_model.specs.Dir.{Files}
 use Rattle.tree_model.specs.Parts.{Part}
 use Rattle.journal_model.specs.Machine.{Running as Began}
-use Rattle.user_world.specs.Facts.{Fact, Here, Always}
+use Rattle.user_world.specs.Facts.{Fact, Still, Here, Always}
 use Rattle.task_turns.specs.Shares.{ShareFact, Own}
 use Rattle.task_turns.specs.Turns.{Rest}
 use Rattle.store_task.specs.declared.stages.Progress.{Progress}
@@ -35,12 +35,23 @@ abbrev pub whole_at : Progress → Part → Fact
 whole_at Settled part = Always part
 whole_at progress part = Here part
 
--- a command while a store task of its works: what else it rests on, the current credential directory, the blobs that
--- it held before, what the machine has of it, and what is left to do behind the store task
+-- what is known of the whole part, by the current credential directory and the temporary one: of a user who isn't
+-- there what stands in it, and of one who is there that nothing is pending once it was synced
+abbrev pub still_at : Progress → List ShareFact
+still_at Settled = Own Still ∷ []
+still_at progress = []
+
+abbrev pub whole_facts : Option (Option Files) → Progress → Option Files → List ShareFact
+whole_facts None progress temp = still_at progress
+whole_facts (Some current) progress temp = Own (whole_at progress (part current temp)) ∷ []
+
+-- a command while a store task of its works: what else it rests on, the current credential directory where that is all
+-- of the user's part, the blobs that it held before, what the machine has of it, and what is left to do behind the
+-- store task
 pub record Frame : Type 1 where
   pub user : ℕ
   pub base : List ShareFact
-  pub current : Option Files
+  pub current : Option (Option Files)
   pub before : List Blob
   pub serves : ℕ → Began → Type 0
   pub turns : ℕ
@@ -55,7 +66,7 @@ turns_of task = left_of task + makes_of task
 abbrev pub rest_in : Frame → Task → Rest
 rest_in frame task = record {
   user = frame.user;
-  facts = frame.base ++ Own (whole_at (progress_of task.stage) (part frame.current (temp_of task))) ∷ facts_of task;
+  facts = frame.base ++ (whole_facts frame.current (progress_of task.stage) (temp_of task) ++ facts_of task);
   held = frame.before ++ held_of task;
   serves = frame.serves;
   left = turns_of task + frame.turns;

@@ -1,10 +1,11 @@
 -- The commands of users: what each rests on, what its turn shows, and how it begins.
-use Rattle.std.specs.Prelude.{◌≡◌, ◌⊎◌, ℕ, ◌+◌, ◌*◌, ◌≤◌, Bool, false, List, [], length, Option, Some, None, is_some}
+use Rattle.std.specs.Prelude.{◌≡◌, ◌⊎◌, ℕ, ◌+◌, ◌*◌, ◌≤◌, List, [], length, Option, Some, None, is_some}
 use Rattle.tree_model.specs.declared.places.Class.TheVariants.{Ce as ForCe}
 use Rattle.tree_model.specs.declared.places.Slot.{Slot}
 use Rattle.tree_model.specs.declared.sites.Site.{Site}
 use Rattle.journal_model.specs.declared.commands.Command.{Command}
 use Rattle.journal_model.specs.declared.commands.Command.TheVariants.{Unlock as UnlockCommand}
+use Rattle.journal_model.specs.declared.commands.Command.TheVariants.{Protect as ProtectCommand}
 use Rattle.journal_model.specs.declared.entries.Birth.{Birth}
 use Rattle.journal_model.specs.declared.refusals.Facts.{Facts}
 use Rattle.journal_model.specs.Command.{user_in}
@@ -13,40 +14,48 @@ use Rattle.journal_model.specs.Refusals.{refusal_of}
 use Rattle.journal_model.specs.Machine.{Running as Began}
 use Rattle.user_world.specs.OwnWorlds.{own_view, own_record}
 use Rattle.step_core.specs.declared.jobs.Job.{Job}
+use Rattle.key_directory.specs.Opened.{WasGiven}
 use Rattle.task_turns.specs.declared.calls.Answer.{Answer}
 use Rattle.task_turns.specs.declared.next.Next.{Next}
 use Rattle.task_turns.specs.declared.next.Next.TheVariants.{Work as WorkNext}
-use Rattle.task_turns.specs.Shares.{Share, IsSound, AreLeftToTry}
+use Rattle.task_turns.specs.Shares.{Share, IsSound, AreLeftToTry, IsNextSlot}
 use Rattle.task_turns.specs.Turns.{Rest, Rests, Scene, Tasks, seen_of, TurnShows}
-use Rattle.user_tasks.specs.Clearing.{IsNextToClear}
+use Rattle.user_tasks.specs.Clearing.{Finds}
 use Rattle.user_tasks.specs.declared.tasks.UserTask.{UserTask}
 use Rattle.user_tasks.specs.declared.tasks.UserTask.TheVariants.{Create as OfCreate, Unlock as OfUnlock}
-use Rattle.user_tasks.specs.declared.tasks.UserTask.TheVariants.{Lock as OfLock}
+use Rattle.user_tasks.specs.declared.tasks.UserTask.TheVariants.{Lock as OfLock, Protect as OfProtect}
 use Rattle.user_tasks.specs.Create.{Creating, create_rest}
 use Rattle.user_tasks.specs.Create.{after as create_after, hears as create_hears, asks_of as create_asks}
 use Rattle.user_tasks.specs.Lock.{lock_rest, after as lock_after, hears as lock_hears}
+use Rattle.user_tasks.specs.Protect.{protect_rest, after as protect_after, hears as protect_hears}
+use Rattle.user_tasks.specs.Protect.{asks_of as protect_asks}
 use Rattle.user_tasks.specs.Unlock.{unlock_rest, after as unlock_after, hears as unlock_hears, asks_of as unlock_asks}
 
--- where a task rests, the answers that it may hear, what it is after one, and whether it asks for a job next
+-- where a task rests, the answers that it may hear, what it is after one, and how many jobs it asks for at most before
+-- its next call or reply
 abbrev pub rest_of : UserTask → Rest
 rest_of (OfCreate create) = create_rest create
 rest_of (OfUnlock unlock) = unlock_rest unlock
 rest_of (OfLock lock) = lock_rest lock
+rest_of (OfProtect protect) = protect_rest protect
 
 abbrev pub hears : UserTask → Answer → Type 0
 hears (OfCreate create) answer = create_hears create answer
 hears (OfUnlock unlock) answer = unlock_hears unlock answer
 hears (OfLock lock) answer = lock_hears lock answer
+hears (OfProtect protect) answer = protect_hears protect answer
 
 abbrev pub after : UserTask → Answer → UserTask
 after (OfCreate create) answer = OfCreate (create_after create answer)
 after (OfUnlock unlock) answer = OfUnlock (unlock_after unlock answer)
 after (OfLock lock) answer = OfLock (lock_after lock)
+after (OfProtect protect) answer = OfProtect (protect_after protect answer)
 
-abbrev pub asks_of : UserTask → Bool
+abbrev pub asks_of : UserTask → ℕ
 asks_of (OfCreate create) = create_asks create
 asks_of (OfUnlock unlock) = unlock_asks unlock
-asks_of (OfLock lock) = false
+asks_of (OfLock lock) = 0
+asks_of (OfProtect protect) = protect_asks protect
 
 abbrev pub tasks : Tasks UserTask
 tasks = record { rest_of = rest_of; hears = hears; after = after; asks = asks_of }
@@ -62,22 +71,29 @@ most_turns = 26
 abbrev pub UserTurns : UserTask → Option Site → Next → Type 0
 UserTurns task in_the_way next = (scene : Scene)
     → IsSound (user_of task) scene.share
-    → IsNextToClear (own_view scene.share.own) in_the_way
+    → Finds (own_view scene.share.own) (rest_of task).held in_the_way
     → Rests (rest_of task) scene.boot scene.began scene.share → TurnShows (seen_of tasks task) scene next
 
 -- a command as it begins and isn't refused
 abbrev pub accepted : Command → ℕ → Began
 accepted command index = record { command = command; verdict = None; changes = []; index = index }
 
--- the slots are those that a command with a secret has to try
-abbrev pub AreToTry : Command → List Slot → Share → Type 0
-AreToTry (UnlockCommand user secret) slots share = AreLeftToTry share secret slots
-AreToTry command slots share = Unit {0}
+-- a command with a secret, which it gave, has these slots to try
+pub record AreToTry (share : Share) (user : ℕ) (secret : List ℕ) (slots : List Slot) : Type 0 where
+  pub left : AreLeftToTry share secret slots
+  pub gave : WasGiven (share.vault.attempts user) secret
+
+-- what a command knows of the user's slots as it begins: those to try, and the one that a further secret comes into
+abbrev pub KnowsSlots : Command → List Slot → Slot → Share → Type 0
+KnowsSlots (UnlockCommand user secret) slots next share = AreToTry share user secret slots
+KnowsSlots (ProtectCommand user given fresh) slots next share =
+    AreToTry share user given slots × IsNextSlot share next
+KnowsSlots command slots next share = Unit {0}
 
 -- a user's command begins with this task: it rests in each share of the user's in which the command is not refused,
--- under whose seed the bytes of the boot are made, and in which these slots are to be tried
-pub record Begins (command : Command) (birth : Birth) (boot_seed : List ℕ) (slots : List Slot) (task : UserTask) :
-    Type 0 where
+-- under whose seed the bytes of the boot are made, and in which this is known of the slots
+pub record Begins (command : Command) (birth : Birth) (boot_seed : List ℕ) (slots : List Slot) (next : Slot)
+    (task : UserTask) : Type 0 where
   pub owned : user_in command ≡ Some (user_of task)
   pub few : (rest_of task).left ≤ most_turns + 3 * length slots
   pub makes : (rest_of task).makes ≤ 2
@@ -85,7 +101,7 @@ pub record Begins (command : Command) (birth : Birth) (boot_seed : List ℕ) (sl
   pub held : (rest_of task).held ≡ []
   pub rests : (facts : Facts) (share : Share) → facts.present ≡ is_some (own_record share.own)
       → facts.installed ≡ is_some (share.keys ForCe) → refusal_of command facts ≡ None
-      → boot_seed ≡ boot_seed_of share.vault.seed birth.boot → AreToTry command slots share
+      → boot_seed ≡ boot_seed_of share.vault.seed birth.boot → KnowsSlots command slots next share
       → Rests (rest_of task) birth.boot (accepted command birth.index) share
 
 -- the numbers of a command's jobs, which no other command's have
@@ -97,11 +113,14 @@ abbrev pub HasJobs : ℕ → UserTask → Type 0
 HasJobs number (OfCreate create) = HasTwoJobs number create
 HasJobs number (OfUnlock unlock) = unlock.opening.job ≡ 65536 * number
 HasJobs number (OfLock lock) = Unit {0}
+HasJobs number (OfProtect protect) =
+    (protect.opening.job ≡ 65536 * number) × (protect.store.job ≡ 65536 * number + 1)
 
 abbrev pub OwnsJob : UserTask → Job → Type 0
 OwnsJob (OfCreate create) job = (job.number ≡ create.ce.job) ⊎ (job.number ≡ create.de.job)
 OwnsJob (OfUnlock unlock) job = job.number ≡ unlock.opening.job
 OwnsJob (OfLock lock) job = ⊥
+OwnsJob (OfProtect protect) job = (job.number ≡ protect.opening.job) ⊎ (job.number ≡ protect.store.job)
 
 abbrev pub IsNumbered : UserTask → Next → Type 0
 IsNumbered task (WorkNext job) = OwnsJob task job
@@ -111,5 +130,5 @@ IsNumbered task next = Unit {0}
 abbrev pub UserJobs : UserTask → Option Site → Next → Type 0
 UserJobs task in_the_way next = (scene : Scene)
     → IsSound (user_of task) scene.share
-    → IsNextToClear (own_view scene.share.own) in_the_way
+    → Finds (own_view scene.share.own) (rest_of task).held in_the_way
     → Rests (rest_of task) scene.boot scene.began scene.share → IsNumbered task next

@@ -11,7 +11,7 @@ use Rattle.task_turns.specs.declared.calls.Answer.TheVariants.{Done}
 use Rattle.task_turns.specs.declared.calls.Call.TheVariants.{Read as ReadCall, Decrypt as DecryptCall, Add}
 use Rattle.task_turns.specs.declared.next.Next.{Next}
 use Rattle.task_turns.specs.declared.next.Next.TheVariants.{Work as WorkNext, Reply as ReplyNext}
-use Rattle.task_turns.specs.Shares.{ShareFact, HasKey}
+use Rattle.task_turns.specs.Shares.{ShareFact, Gave, HasKey}
 use Rattle.task_turns.specs.Turns.{Rest}
 use Rattle.open_task.specs.declared.stages.Doing.{Doing}
 use Rattle.open_task.specs.declared.stages.Doing.TheVariants.{Read, Work, Decrypt}
@@ -33,7 +33,7 @@ pub record IsUnlock (user : ℕ) (secret : List ℕ) (boot : ℕ) (began : Began
 
 -- in the end the credential key is in the ring
 abbrev pub facts_at : Bool → Opening → List ShareFact
-facts_at false opening = open_facts opening
+facts_at false opening = Gave opening.user opening.secret ∷ open_facts opening
 facts_at true opening = HasKey ForCe true ∷ []
 
 abbrev pub left_at : Bool → Opening → ℕ
@@ -70,8 +70,8 @@ hears_with (Some key) unlock answer = answer ≡ Done
 abbrev pub hears : Unlock → Answer → Type 0
 hears unlock answer = hears_with (key_in unlock.opening.stage) unlock answer
 
--- whether it asks for a job next
-abbrev pub asks_of : Unlock → Bool
+-- how many jobs it asks for next
+abbrev pub asks_of : Unlock → ℕ
 asks_of unlock = open_asks unlock.opening
 
 -- the turn that opens the user's key, and the one once the slots were tried

@@ -216,6 +216,6 @@ fn after_de(progress: Progress) -> Stage
 fn install(user: u32, class: Class, stored: &StoreTask) -> Next
     ensures { result ≡ quiet_turn (Add user class stored.now.spec.key) }
 {
-    let key = stored.key();
+    let key = stored.spec().key;
     quiet(Call::Add { user, class, key })
 }

@@ -5,6 +5,7 @@
 pub mod creates;
 pub mod locks;
 pub mod made;
+pub mod protects;
 pub mod stores;
 pub mod tasks;
 pub mod unlocks;
@@ -12,6 +13,7 @@ pub mod wrong_plans;
 
 pub use creates::{Create, Stage};
 pub use locks::{Lock, LockStage};
+pub use protects::{Protect, ProtectStage};
 pub use tasks::{UserTask, first};
 pub use unlocks::Unlock;
 

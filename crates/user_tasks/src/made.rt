@@ -1,5 +1,5 @@
 ghost use Rattle.std.specs.Prelude.{◌≡◌, IfOk};
-ghost use Rattle.user_tasks.specs.Made.{IsMadeSpec, target_of};
+ghost use Rattle.user_tasks.specs.Made.{IsMadeSpec, IsFurtherSpec, target_of};
 
 use journal_model::{Birth, Secret, made_discardable, made_key, made_nonce};
 use keystore_model::Tag;
@@ -25,6 +25,29 @@ pub fn made_spec(
         secret: Secret::empty(alloc),
         nonce: made_nonce(boot_seed, class, user, index),
         discard: made_discardable(alloc, boot_seed, class, user, index)?,
+    })
+}
+
+/// What is stored of a user's credential key in a further slot under a fresh secret, but for the key, which is still to
+/// be opened.
+pub fn further_spec(
+    alloc: Global,
+    boot_seed: &[u8; 32],
+    user: u32,
+    made: Birth,
+    slot: Slot,
+    fresh: Secret,
+) -> Result<StoreSpec, NoMemory>
+    ensures made { IfOk result (IsFurtherSpec user made slot fresh boot_seed.now) }
+{
+    let class = Class::Ce;
+    Ok(StoreSpec {
+        target: Place::Ce(user, slot),
+        tag: Tag { user, class },
+        key: [0; 64],
+        secret: fresh,
+        nonce: made_nonce(boot_seed, class, user, made.index),
+        discard: made_discardable(alloc, boot_seed, class, user, made.index)?,
     })
 }
 

@@ -6,8 +6,10 @@ ghost use Rattle.user_tasks.specs.Tasks.{Begins, HasJobs, UserTurns, UserJobs, t
 
 use crate::creates::Create;
 use crate::locks::Lock;
+use crate::protects::Protect;
 use crate::unlocks::Unlock;
 use journal_model::{Birth, Command};
+use open_task::OpenTask;
 use std::alloc::Global;
 use task_turns::{Answer, Next};
 use tree_model::{Blob, NoMemory, Site, Slot};
@@ -18,6 +20,7 @@ pub enum UserTask {
     Create(Create),
     Unlock(Unlock),
     Lock(Lock),
+    Protect(Protect),
 }
 
 impl UserTask {
@@ -29,6 +32,7 @@ impl UserTask {
             UserTask::Create(create) => create.user(),
             UserTask::Unlock(unlock) => unlock.opening.user(),
             UserTask::Lock(lock) => lock.user,
+            UserTask::Protect(protect) => protect.user(),
         }
     }
 
@@ -43,6 +47,7 @@ impl UserTask {
             UserTask::Create(create) => create.next(alloc, in_the_way),
             UserTask::Unlock(unlock) => unlock.next(alloc),
             UserTask::Lock(lock) => Ok(lock.next()),
+            UserTask::Protect(protect) => protect.next(alloc, in_the_way),
         }
     }
 
@@ -55,6 +60,7 @@ impl UserTask {
             UserTask::Create(create) => create.heard(answer),
             UserTask::Unlock(unlock) => unlock.heard(answer),
             UserTask::Lock(lock) => *lock = lock.heard(),
+            UserTask::Protect(protect) => protect.heard(answer),
         }
     }
 
@@ -64,6 +70,7 @@ impl UserTask {
     {
         match self {
             UserTask::Create(create) => create.held(),
+            UserTask::Protect(protect) => protect.held(),
             UserTask::Unlock(_) | UserTask::Lock(_) => [None, None],
         }
     }
@@ -76,12 +83,13 @@ impl UserTask {
             UserTask::Create(create) => UserTask::Create(create.duplicate(alloc)?),
             UserTask::Unlock(unlock) => UserTask::Unlock(unlock.duplicate(alloc)?),
             UserTask::Lock(lock) => UserTask::Lock(*lock),
+            UserTask::Protect(protect) => UserTask::Protect(protect.duplicate(alloc)?),
         })
     }
 }
 
-/// The task of a user's command that begins and isn't refused, with the slots that it has to try; None exactly where the
-/// command is not a user's.
+/// The task of a user's command that begins and isn't refused, with the slots that it has to try and the one that a
+/// further secret comes into; None exactly where the command is not a user's.
 pub fn first(
     alloc: Global,
     command: &Command,
@@ -89,10 +97,11 @@ pub fn first(
     birth: Birth,
     boot_seed: &[u8; 32],
     slots: Vec<Slot>,
+    next: Slot,
 ) -> Result<Option<UserTask>, NoMemory>
     requires number { number < 65536 }
     ensures begins { IfOk result (λ found.
-        MatchOption found (IsNone (user_in command.now)) (Begins command.now birth boot_seed.now slots.items)) }
+        MatchOption found (IsNone (user_in command.now)) (Begins command.now birth boot_seed.now slots.items next)) }
     ensures jobs { IfOk result (λ found. IfSome found (HasJobs number)) }
 {
     match command {
@@ -106,6 +115,13 @@ pub fn first(
             Ok(Some(UserTask::Unlock(unlock)))
         }
         Command::Lock { user } => Ok(Some(UserTask::Lock(Lock::first(*user)))),
+        Command::Protect { user, known, fresh } => {
+            let known = known.duplicate(alloc)?;
+            let opening = OpenTask::new(*user, slots, known, 65536 * number);
+            let fresh = fresh.duplicate(alloc)?;
+            let protect = Protect::first(alloc, opening, fresh, next, birth, number, boot_seed)?;
+            Ok(Some(UserTask::Protect(protect)))
+        }
         Command::Recover => Ok(None),
     }
 }

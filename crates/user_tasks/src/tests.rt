@@ -1,7 +1,7 @@
-//! How a create and an unlock begin.
+//! How a create, an unlock and a protect begin.
 
 use super::*;
-use journal_model::{Birth, Command, Secret};
+use journal_model::{Birth, Command, Reply, Secret};
 use std::alloc::Global;
 use std::test::Fail;
 use task_turns::{Call, Next};
@@ -16,18 +16,23 @@ fn begun(alloc: Global, command: &Command, slots: Vec<Slot>) -> Result<Option<Us
         Birth { boot: 1, index: 2 },
         &[3; 32],
         slots,
+        Slot::Cx(0),
     )
 }
 
 /// Whether the task removes the temporary directory, where one is in its way.
 fn removes_what_is_there(alloc: Global, task: &UserTask) -> Result<bool, NoMemory> {
-    match task.next(alloc, Some(Site::Temp))? {
+    let next = task.next(alloc, Some(Site::Temp))?;
+    Ok(matches!(
+        &next,
         Next::Call {
-            call: Call::Op { op, .. },
+            call: Call::Op {
+                op: LocalOp::RemoveDir(Site::Temp),
+                ..
+            },
             ..
-        } => Ok(matches!(op, LocalOp::RemoveDir(Site::Temp))),
-        _ => Ok(false),
-    }
+        }
+    ))
 }
 
 /// Whether the task asks for a job, where nothing is in its way.
@@ -35,13 +40,13 @@ fn asks_for_a_job(alloc: Global, task: &UserTask) -> Result<bool, NoMemory> {
     Ok(matches!(task.next(alloc, None)?, Next::Work(_)))
 }
 
-/// Whether the task reads the user's current slot.
-fn reads_the_slot(alloc: Global, task: &UserTask) -> Result<bool, NoMemory> {
+/// Whether the task reads this slot of the user's.
+fn reads_the_slot(alloc: Global, task: &UserTask, slot: Slot) -> Result<bool, NoMemory> {
     match task.next(alloc, None)? {
         Next::Call {
             call: Call::Read(place),
             ..
-        } => Ok(place == Place::Ce(10, Slot::Current)),
+        } => Ok(place == Place::Ce(10, slot)),
         _ => Ok(false),
     }
 }
@@ -66,7 +71,34 @@ fn unlock_begins_with_the_first_slot(rt: HostRuntime) -> Result<(), Fail> {
     };
     let slots = vec![in alloc; Slot::Current]?;
     let task = begun(alloc, &command, slots)?.ok_or("no task")?;
-    assert!(rt; reads_the_slot(alloc, &task)?);
+    assert!(rt; reads_the_slot(alloc, &task, Slot::Current)?);
+    Ok(())
+}
+
+/// A protect of the user's.
+fn protect(alloc: Global) -> Command {
+    Command::Protect {
+        user: 10,
+        known: Secret::empty(alloc),
+        fresh: Secret::empty(alloc),
+    }
+}
+
+#[test]
+fn protect_begins_with_the_newest_slot(rt: HostRuntime) -> Result<(), Fail> {
+    let alloc = rt.alloc();
+    let slots = vec![in alloc; Slot::Cx(3), Slot::Current]?;
+    let task = begun(alloc, &protect(alloc), slots)?.ok_or("no task")?;
+    assert_eq!(rt; task.user(), 10);
+    assert!(rt; reads_the_slot(alloc, &task, Slot::Cx(3))?);
+    Ok(())
+}
+
+#[test]
+fn protect_without_a_slot_has_a_wrong_secret(rt: HostRuntime) -> Result<(), Fail> {
+    let alloc = rt.alloc();
+    let task = begun(alloc, &protect(alloc), Vec::new(alloc))?.ok_or("no task")?;
+    assert!(rt; matches!(task.next(alloc, None)?, Next::Reply(Reply::WrongSecret)));
     Ok(())
 }
 

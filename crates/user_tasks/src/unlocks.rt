@@ -67,8 +67,8 @@ impl Unlock {
     }
 }
 
-/// The turn of an unlock that opens the user's key.
-fn opening_turn(user: u32, doing: Doing) -> Next
+/// The turn of a command that opens the user's key.
+pub fn opening_turn(user: u32, doing: Doing) -> Next
     ensures { result ≡ opening_turn user doing }
 {
     match doing {

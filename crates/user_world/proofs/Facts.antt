@@ -12,13 +12,15 @@ use Rattle.journal_model.specs.Users.{Record}
 use Rattle.user_world.specs.declared.changes.LocalChange.{LocalChange}
 use Rattle.user_world.specs.Changes.{known_through, known_with}
 use Rattle.user_world.specs.OwnWorlds.{Step, OwnWorld, own_view, own_log, with_step, settled}
-use Rattle.user_world.specs.Facts.{Later, Fact, Knows, Logged, Durable, Here, Always, HereAt, AlwaysAt, Holds, AllHold}
+use Rattle.user_world.specs.Facts.{Later, Fact, Knows, Logged, Durable, Still, Here, Always, HereAt, AlwaysAt, Holds}
+use Rattle.user_world.specs.Facts.{AllHold}
 use Rattle.user_world.proofs.OwnWorlds.{view-step, log-step, record-step, log-settled, image-step, view-image}
 
 settled-fact : (fact : Fact) (own : OwnWorld) → Holds fact own → Holds fact (settled own)
 settled-fact (Knows known) own holds = ap (known_through _) (log-settled own) ∙ holds
 settled-fact (Logged change) own holds = subst (λ changes. Contains changes change) (sym (log-settled own)) holds
 settled-fact Durable own holds = refl
+settled-fact Still own holds = refl
 settled-fact (Here part) own holds = holds
 settled-fact (Always part) own holds = λ left is. is ∙ holds (own_view own) (view-image own.stable own.pending)
 settled-fact (HereAt site held) own holds = holds

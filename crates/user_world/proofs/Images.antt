@@ -15,18 +15,18 @@ use Rattle.tree_model.specs.Disk.{Disk, view, with_op, synced, stopped, filled, 
 use Rattle.tree_model.specs.Sites.{place_of}
 use Rattle.tree_model.specs.Parts.{part_of}
 use Rattle.tree_model.specs.Touch.{IsOf, SameFor}
-use Rattle.tree_model.proofs.Maps.{decide_key, get-insert_other}
+use Rattle.tree_model.proofs.Maps.{decide_key}
 use Rattle.tree_model.proofs.Parts.{fun_ext, user-place}
 use Rattle.tree_model.proofs.Touch.{same-other, of_user-filled}
 use Rattle.tree_model.proofs.Images.{image-IsImage, IsImage-applied}
 use Rattle.tree_model.proofs.Images.{IsImage-append, changes_in-append, changes_in-take}
 use Rattle.journal_model.specs.declared.entries.Change.{Change}
-use Rattle.journal_model.specs.declared.entries.Change.TheVariants.{Create}
 use Rattle.journal_model.specs.Users.{Record, Users, after_change, fold_changes, owner_of, no_users}
 use Rattle.journal_model.proofs.Folds.{folded-append}
 use Rattle.user_world.specs.Meaning.{Meaning, PartStands, UserStands, StandsFor}
 use Rattle.user_world.specs.Images.{ImagesStand}
 use Rattle.user_world.specs.ImageLaws.{KeepsUser}
+use Rattle.user_world.proofs.Worlds.{change-theirs}
 
 -- two trees that hold the same at the user's places have one part of the user
 pub same-part : (user : ℕ) (before after : Tree) → SameFor user before after → part_of after user ≡ part_of before user
@@ -41,9 +41,9 @@ fold_changes-append changes change = folded-append no_users changes change
 -- a change leaves every other user's record
 pub known-append : (log : List Change) (change : Change) (other : ℕ) → other ≢ owner_of change
     → map.get (fold_changes (log ++ change ∷ [])) other ≡ map.get (fold_changes log) other
-known-append log (Create user birth) other differ =
-    ap (λ users. map.get users other) (fold_changes-append log (Create user birth))
-    ∙ get-insert_other nat_cmp_total nat_cmp-IsAntisymmetric (fold_changes log) user _ other differ
+known-append log change other differ =
+    ap (λ users. map.get users other) (fold_changes-append log change)
+    ∙ change-theirs (fold_changes log) change other (λ e. differ (sym e))
 
 module _ (meaning : Meaning) where
   pub by-users : (tree : Tree) (op : Op) (user : ℕ) (before after : Users)

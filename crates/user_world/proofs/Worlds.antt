@@ -20,12 +20,13 @@ use Rattle.tree_model.specs.Parts.{part_of, after_local, filled_local}
 use Rattle.tree_model.proofs.Maps.{get-insert_same, get-insert_other}
 use Rattle.tree_model.proofs.Parts.{part-own_filled, part-other_filled}
 use Rattle.journal_model.specs.declared.entries.Change.{Change}
-use Rattle.journal_model.specs.declared.entries.Change.TheVariants.{Create}
+use Rattle.journal_model.specs.declared.entries.Change.TheVariants.{Create, Add}
 use Rattle.journal_model.specs.Machine.{NoChangeOf}
-use Rattle.journal_model.specs.Users.{Users, no_users, after_change, folded, fold_changes, owner_of}
+use Rattle.journal_model.specs.Users.{Record, Users, no_users, added, after_change, folded, fold_changes, owner_of}
 use Rattle.user_world.specs.declared.changes.LocalChange.{LocalChange}
-use Rattle.user_world.specs.declared.changes.LocalChange.TheVariants.{Born}
-use Rattle.user_world.specs.Changes.{change_of, local_of, known_after, known_through, changes_for, if_noted}
+use Rattle.user_world.specs.declared.changes.LocalChange.TheVariants.{Born, Added}
+use Rattle.user_world.specs.Changes.{change_of, local_of, with_added, known_after, known_through}
+use Rattle.user_world.specs.Changes.{changes_for, if_noted}
 use Rattle.user_world.specs.OwnWorlds.{Step, notes, part_after, own_view, own_log, with_step, settled}
 use Rattle.user_world.specs.Worlds.{Owned, World, ops_of, changes_of, log_of, steps_of, own, with_owned, settled_world}
 
@@ -70,6 +71,7 @@ pub noted-for : (user owner : ℕ) (note : Option LocalChange) (changes : List C
     ≡ cond (owner == user) (if_noted note (λ change. change) (changes_for user changes)) (changes_for user changes)
 noted-for user owner None changes = same_branches (owner == user) (changes_for user changes)
 noted-for user owner (Some (Born birth)) changes = refl
+noted-for user owner (Some (Added slot secret)) changes = refl
 
 -- the user's changes among the pending ones are those that the user's steps note
 pub changes-steps : (user : ℕ) (pending : List Owned)
@@ -140,11 +142,23 @@ change-mine : (users : Users) (change : Change)
     → map.get (after_change users change) (owner_of change)
     ≡ known_after (map.get users (owner_of change)) (local_of change)
 change-mine users (Create owner birth) = get-insert_same nat_cmp_total nat_cmp-IsAntisymmetric users owner _
+change-mine users (Add owner slot secret) =
+    elim (map.get users owner) as (λ (found : Option Record). map.get users owner ≡ found
+    → map.get (added users owner slot secret found) owner ≡ with_added found slot secret) [
+      | None ↦ λ none. none
+      | Some known ↦ λ is. get-insert_same nat_cmp_total nat_cmp-IsAntisymmetric users owner _
+    ] refl
 
-change-theirs : (users : Users) (change : Change) (user : ℕ) → owner_of change ≢ user
+pub change-theirs : (users : Users) (change : Change) (user : ℕ) → owner_of change ≢ user
     → map.get (after_change users change) user ≡ map.get users user
 change-theirs users (Create owner birth) user differ =
     get-insert_other nat_cmp_total nat_cmp-IsAntisymmetric users owner _ user (λ e. differ (sym e))
+change-theirs users (Add owner slot secret) user differ =
+    elim (map.get users owner) as (λ (found : Option Record). map.get (added users owner slot secret found) user
+    ≡ map.get users user) [
+      | None ↦ refl
+      | Some known ↦ get-insert_other nat_cmp_total nat_cmp-IsAntisymmetric users owner _ user (λ e. differ (sym e))
+    ]
 
 -- what the changes make of the user is what the user's changes make
 known-folded : (user : ℕ) (users : Users) (changes : List Change)
@@ -168,6 +182,7 @@ known-own user changes =
 
 change_of-local : (change : Change) → change ≡ change_of (owner_of change) (local_of change)
 change_of-local (Create user birth) = refl
+change_of-local (Add user slot secret) = refl
 
 -- a change of the user's is a change of all, and the other way round
 pub contains-of : (user : ℕ) (changes : List Change) (change : LocalChange)
@@ -205,6 +220,8 @@ owned-change change user is = ap (λ u. change_of u (local_of change)) (sym is) 
 
 pub owner-change_of : (user : ℕ) (change : LocalChange) → owner_of (change_of user change) ≡ user
 owner-change_of user (Born birth) = refl
+owner-change_of user (Added slot secret) = refl
 
 pub local-change_of : (user : ℕ) (change : LocalChange) → local_of (change_of user change) ≡ change
 local-change_of user (Born birth) = refl
+local-change_of user (Added slot secret) = refl

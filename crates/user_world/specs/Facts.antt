@@ -16,6 +16,8 @@ pub data Fact : Type 0 where
   Knows : Option Record → Fact
   Logged : LocalChange → Fact
   Durable : Fact
+  -- nothing is pending
+  Still : Fact
   -- what calls see of the user's part, and what stands in every part that a stop can leave; the same of one site
   Here : Part → Fact
   Always : Part → Fact
@@ -26,6 +28,7 @@ abbrev pub Holds : Fact → OwnWorld → Type 0
 Holds (Knows known) own = own_record own ≡ known
 Holds (Logged change) own = Contains (own_log own) change
 Holds Durable own = notes own.pending ≡ []
+Holds Still own = own.pending ≡ []
 Holds (Here part) own = own_view own ≡ part
 Holds (Always part) own = (left : Part) → IsOwnImage own.stable own.pending left → left ≡ part
 Holds (HereAt site held) own = own_view own site ≡ held

@@ -1,13 +1,16 @@
 ghost use Rattle.std.specs.Prelude.{◌≡◌};
 ghost use Rattle.user_world.specs.Changes.{change_of};
 
-use journal_model::{Birth, Change};
+use journal_model::{Birth, Change, Secret};
+use tree_model::Slot;
 
 /// A change of one user's record.
-#[derive(Clone, Copy, Debug, PartialEq, Eq)]
+#[derive(Drop)]
 pub enum LocalChange {
     /// The user is there from now on.
     Born(Birth),
+    /// The user has a further slot from now on, under this secret.
+    Added { slot: Slot, secret: Secret },
 }
 
 impl LocalChange {
@@ -17,6 +20,7 @@ impl LocalChange {
     {
         match self {
             LocalChange::Born(birth) => Change::Create { user, birth },
+            LocalChange::Added { slot, secret } => Change::Add { user, slot, secret },
         }
     }
 }

@@ -1,55 +1,66 @@
 -- A turn that begins a command keeps a Book whole.
 use Rattle.std.proofs.Common.{◌≡◌, ◌≢◌, ℕ, ◌+◌, inl, inr, cond, List, [], ◌∷◌, ◌++◌, refl, sym, ap, ◌∙◌, subst}
+use Rattle.std.proofs.Common.{arith}
 use Rattle.std.proofs.lemmas.Option.{same_Some}
 use Rattle.std.specs.Prelude.{Bool, true, false, not, Option, Some, None, is_some, IsNone, IsSomeAnd, IfSome, Contains}
 use Rattle.std.specs.Prelude.{slice_get, unwrap_or}
 use Rattle.std.specs.Cmp.{nat_cmp_total}
 use Rattle.std.specs.FinMap as map
 use Rattle.std.specs.FinMap.{nat_cmp-IsAntisymmetric}
-use Rattle.std.proofs.lemmas.List.Elements.{Contains-append_left, Contains-push}
+use Rattle.std.proofs.lemmas.Bool.{eq-eqb}
+use Rattle.std.proofs.lemmas.List.Elements.{Contains-append_left, Contains-append_right, Contains-push}
 use Rattle.tree_model.specs.declared.places.Place.TheVariants.{De}
 use Rattle.tree_model.specs.Disk.{view}
 use Rattle.tree_model.proofs.Maps.{decide_key, get-insert_same, get-insert_other, tied, apart}
 use Rattle.journal_model.specs.declared.commands.Actor.{Actor}
 use Rattle.journal_model.specs.declared.commands.Actor.TheVariants.{Boot}
 use Rattle.journal_model.specs.declared.commands.Command.{Command}
-use Rattle.journal_model.specs.declared.commands.Command.TheVariants.{Unlock}
+use Rattle.journal_model.specs.declared.commands.Command.TheVariants.{Create, Unlock, Lock, Protect, Recover}
 use Rattle.journal_model.specs.declared.commands.Reply.{Reply}
-use Rattle.journal_model.specs.declared.commands.Reply.TheVariants.{NoUser, Ready}
+use Rattle.journal_model.specs.declared.commands.Reply.TheVariants.{NoUser, NoSlot, Ready}
 use Rattle.journal_model.specs.declared.entries.Entry.{Entry}
 use Rattle.journal_model.specs.declared.entries.Entry.TheVariants.{Began}
 use Rattle.journal_model.specs.declared.phase.Phase.{Phase}
 use Rattle.journal_model.specs.declared.phase.Phase.TheVariants.{Up, Down, Halted}
 use Rattle.journal_model.specs.Actor.{actor_cmp, actor_total, actor_exact}
 use Rattle.journal_model.specs.Command.{actor_of, user_in}
-use Rattle.journal_model.specs.Refusals.{refusal_of, due}
+use Rattle.journal_model.specs.Refusals.{refusal_of, due, first_due}
 use Rattle.journal_model.specs.Machine.{Machine, Running as BeganCommand, after_entry, begun, begun_by, numbers_begun}
-use Rattle.journal_model.specs.Machine.{is_up, is_present, facts_of, verdict_of, TakesTurn}
+use Rattle.journal_model.specs.Machine.{is_up, is_present, is_full as is_full_there, facts_of, verdict_of, TakesTurn}
 use Rattle.journal_model.proofs.ByCommand.{no-user, of-user, refusal-kind}
 use Rattle.journal_model.proofs.Steps.{machine_after-append, legal-append, begun_by-append, numbers_begun-append}
 use Rattle.journal_model.specs.Users.{fold_changes}
-use Rattle.keystore_model.proofs.Elements.{Contains-none}
+use Rattle.keystore_model.proofs.Elements.{Contains-none, Contains-first}
 use Rattle.docket.specs.Accounts.{Accounted}
 use Rattle.docket.specs.Docket.{after_begin, begun_by as docket_begun}
 use Rattle.docket.proofs.Accounts.{accounted-begun, first-fresh}
 use Rattle.user_world.specs.OwnWorlds.{own_record}
 use Rattle.user_world.specs.Timelines.{own_of}
-use Rattle.user_tasks.specs.Tasks.{user_of, rest_of, accepted, AreToTry}
+use Rattle.user_tasks.specs.Tasks.{user_of, rest_of, accepted, AreToTry, KnowsSlots}
+use Rattle.task_turns.specs.Shares.{Share, ShareFact, LeftToTry, NextSlot, IsNextSlot, AllHas, AreHeld}
+use Rattle.task_turns.proofs.Lasting.{facts-last}
 use Rattle.task_turns.specs.Turns.{Rests}
+use Rattle.key_directory.specs.Opened.{WasGiven as GaveSecret}
+use Rattle.key_directory.specs.Tried.{given_by, not_empty, if_of}
+use Rattle.key_directory.specs.Vaults.{Attempts, Extends}
 use Rattle.key_directory.proofs.Present.{there-record, there-user}
 use Rattle.vold_book.specs.declared.tasks.Running.{Running}
 use Rattle.bench.specs.Known.{Knows}
 use Rattle.vold_book.specs.declared.tasks.Task.{Task}
 use Rattle.vold_book.specs.declared.tasks.Task.TheVariants.{User as Using, Recovery as Recovers, Refusal, Fault}
-use Rattle.vold_book.specs.State.{Docket, Plain, Ground, machine_of, timeline, ground_of, ground_at, vault_of}
+use Rattle.vold_book.specs.State.{Docket, Plain, Ground, machine_of, tried_in, timeline, ground_of, ground_at}
+use Rattle.vold_book.specs.State.{vault_of}
 use Rattle.vold_book.specs.State.{share_of}
-use Rattle.vold_book.specs.Slots.{slots_for}
+use Rattle.vold_book.specs.Entries.{tried_with}
+use Rattle.vold_book.specs.Slots.{slots_in, slots_for, is_full, slot_next}
 use Rattle.vold_book.specs.Tasks.{TaskStands, RunsOn, HoldsOwn, held_in}
 use Rattle.vold_book.specs.Turns.{user_there, facts_in, Start, start_in, AcceptedTask, FirstTask}
 use Rattle.vold_book.specs.Whole.{WasGiven, Numbers, PhaseStands, AllRun, Whole}
 use Rattle.vold_book.proofs.CountedUsers.{crowds-agree}
 use Rattle.vold_book.proofs.SlotsToTry.{user-up, slots-to-try}
-use Rattle.vold_book.proofs.Moves.{Steady, whole-of, at_actors}
+use Rattle.vold_book.proofs.KnownSlots.{slots-agree, next-slot}
+use Rattle.vold_book.proofs.UserTurns.{stands-more, worlds-later}
+use Rattle.vold_book.proofs.Moves.{Steady, whole-of, tried-with, tried-more, at_actors}
 use Rattle.vold_book.proofs.Plains.{Beginning, IsBeginning, begun_plain, begun_seen}
 use Rattle.vold_book.proofs.Numbers.{all_given-append}
 use Rattle.tree_model.specs.declared.places.Class.TheVariants.{Ce}
@@ -60,6 +71,15 @@ use Rattle.journal_model.specs.Machine.{is_unlocked}
 pub none_of : {A : Type 0} (found : Option A) → IsNone found → found ≡ None
 none_of None none = refl
 none_of (Some a) none = cc
+
+-- a secret that isn't empty is the one of its list
+given-some : (secret : List ℕ) → secret ≢ [] → Contains (not_empty secret) secret
+given-some [] some = absurd (some refl)
+given-some (byte ∷ bytes) some = Contains-first (byte ∷ bytes) []
+
+not-due : (holds : Bool) → due holds NoSlot ≡ None → holds ≡ false
+not-due true none = cc
+not-due false none = refl
 
 ready-down : (phase : Phase) → TakesTurn phase Boot → due (is_up phase) Ready ≡ None → phase ≡ Down
 ready-down Up takes none = cc
@@ -82,6 +102,13 @@ module _ (book : Plain) (actor : Actor) (begins : Beginning) (whole : Whole book
   abbrev began : BeganCommand
   began = begun book.ledger.entries machine begins.command
 
+  -- what was tried by then: the secret that it gives, too
+  abbrev tried' : ℕ → Attempts
+  tried' = tried_with book.seed machine (tried_in book) (Some entry)
+
+  more-tried : (user : ℕ) → Extends (tried_in book user) (tried' user)
+  more-tried = tried-more book (Some entry)
+
   -- a user's command begins where the machine is up
   module _ (user : ℕ) (whose : user_in begins.command ≡ Some user) where
     up : book.tracker.phase ≡ Up
@@ -96,14 +123,21 @@ module _ (book : Plain) (actor : Actor) (begins : Beginning) (whole : Whole book
       present = there i;
       crowded = crowds-agree book whole up i;
       installed = is_unlocked (user_in begins.command) machine.ring;
+      full = full-slots i;
       ready = is_up (sym whole.agrees.phase i);
     }
       where
+        full-slots : is_full book.bench.places (user_in begins.command)
+            ≡ is_full_there (user_in begins.command) (fold_changes machine.log)
+        full-slots = subst (λ of. is_full book.bench.places of ≡ is_full_there of (fold_changes machine.log))
+            (sym whose) (slots-agree book whole user known)
+
         there : user_there book.bench.places (user_in begins.command)
             ≡ is_present (user_in begins.command) (fold_changes machine.log)
         there = subst (λ of. user_there book.bench.places of ≡ is_present of (fold_changes machine.log)) (sym whose)
             (known.there (De user)
-            ∙ there-user (vault_of book.seed book.bench.store) (timeline book.bench.disk machine) user whole.worlds)
+            ∙ there-user (vault_of (tried_in book) book.seed book.bench.store) (timeline book.bench.disk machine) user
+            whole.worlds)
 
   -- a recovery is refused by the phase alone
   verdict-is : refusal_of begins.command (facts_in book.bench.places book begins.command)
@@ -118,25 +152,87 @@ module _ (book : Plain) (actor : Actor) (begins : Beginning) (whole : Whole book
           subst (λ c. refusal_of c (facts_in book.bench.places book c) ≡ verdict_of machine c)
           (sym (no-user begins.command is)) (λ i. due (is_up (sym whole.agrees.phase i)) Ready)
 
-  -- what a command that isn't refused has to try
-  to-try : (command : Command) → actor_of command ≡ actor
-      → refusal_of command (facts_in book.bench.places book command) ≡ None
-      → (user : ℕ) → user_in command ≡ Some user
-      → AreToTry command (slots_for book.bench.places command) (share_of user (ground_of book))
-  to-try (Unlock owner secret) own accepted user is =
-      slots-to-try book actor (Unlock owner secret) whole takes own user is
-      (subst (λ of. user_there book.bench.places of ≡ true) is (there _ accepted))
+  -- what a command that isn't refused knows of the slots
+  module _ (user : ℕ) (whose : user_in begins.command ≡ Some user) where
+    abbrev share' : Share
+    share' = share_of user (ground_at tried' book.seed book.bench machine')
+
+    -- what holds of the user's share holds still
+    still : (facts : List ShareFact) → AreHeld [] facts → AllHas facts (share_of user (ground_of book))
+        → AllHas facts share'
+    still facts = facts-last facts [] (share_of user (ground_of book)) share' (record {
+      own = inl refl;
+      level = refl;
+      seed = refl;
+      attempts = more-tried;
+      keys = refl;
+      kept = λ blob is entry live. live;
+      named = λ blob names entry live. live;
+    })
+
+    gave : (secret : List ℕ) → given_by begins.command ≡ not_empty secret → GaveSecret (tried' user) secret
+    gave secret is some = Contains-append_right (tried_in book user).secrets _ secret
+        (subst (λ of. Contains (if_of user of (given_by begins.command)) secret) (sym whose)
+        (subst (λ t. Contains (cond t (given_by begins.command) []) secret) (sym (eq-eqb user user refl))
+        (subst (λ secrets. Contains secrets secret) (sym is) (given-some secret some))))
+
+    to-try : (secret : List ℕ) → given_by begins.command ≡ not_empty secret
+        → user_there book.bench.places (Some user) ≡ true
+        → AreToTry share' user secret (slots_in book.bench.places user secret (map.keys book.bench.places))
+    to-try secret gives there = record {
+      left = (still (LeftToTry secret _ ∷ []) (tt, tt) (
+        slots-to-try book actor whole takes user secret
+            (sym own ∙ of-user begins.command user whose) there,
+        tt,
+      )).0;
+      gave = gave secret gives;
+    }
+
+  knows-slots : refusal_of begins.command (facts_in book.bench.places book begins.command) ≡ None → (user : ℕ)
+      → (whose : user_in begins.command ≡ Some user)
+      → KnowsSlots begins.command (slots_for book.bench.places begins.command)
+      (slot_next book.bench.places begins.command) (share' user whose)
+  knows-slots goes user whose = by begins.command refl
     where
-      there : (present : Bool) → due (not present) NoUser ≡ None → present ≡ true
-      there true none = refl
-      there false none = cc
-  to-try command own accepted user is = tt
+      present-by : (present : Bool) → due (not present) NoUser ≡ None → present ≡ true
+      present-by true none = refl
+      present-by false none = cc
+
+      there : (present : Bool) (other : Option Reply) → first_due (due (not present) NoUser) other ≡ None
+          → (present ≡ true) × (other ≡ None)
+      there true other none = (refl, none)
+      there false other none = cc
+
+      by : (command : Command) → begins.command ≡ command → KnowsSlots command (slots_for book.bench.places command)
+          (slot_next book.bench.places command) (share' user whose)
+      by (Unlock owner secret) is = subst (λ u. AreToTry (share' user whose) u secret
+          (slots_in book.bench.places u secret (map.keys book.bench.places)))
+          (same_Some user owner (sym whose ∙ ap user_in is))
+          (to-try user whose secret (ap given_by is)
+          (subst (λ of. user_there book.bench.places of ≡ true) whose (present-by _
+          (ap (λ c. refusal_of c (facts_in book.bench.places book begins.command)) (sym is) ∙ goes))))
+      by (Protect owner secret fresh) is =
+          let same : user ≡ owner = same_Some user owner (sym whose ∙ ap user_in is) in
+          let passes = there _ _ (ap (λ c. refusal_of c (facts_in book.bench.places book begins.command)) (sym is)
+          ∙ goes) in
+          let present = subst (λ of. user_there book.bench.places of ≡ true) whose passes.0 in
+          let left = subst (λ of. is_full book.bench.places of ≡ false) whose (not-due _ passes.1) in
+          subst (λ u. AreToTry (share' user whose) u secret
+          (slots_in book.bench.places u secret (map.keys book.bench.places))
+          × IsNextSlot (share' user whose) (slot_next book.bench.places (Protect u secret fresh))) same (
+            to-try user whose secret (ap given_by is) present,
+            (still user whose (NextSlot _ ∷ []) (tt, tt)
+                (next-slot book whole user (known user whose) secret fresh present left, tt)).0,
+          )
+      by (Create owner) is = tt
+      by (Lock owner) is = tt
+      by Recover is = tt
 
   abbrev start : Start
   start = start_in book.bench.places book actor begins.command
 
   abbrev ground' : Ground
-  ground' = ground_at book.seed (begun_seen begins.task book.bench) machine'
+  ground' = ground_at tried' book.seed (begun_seen begins.task book.bench) machine'
 
   none-then : refusal_of begins.command (facts_in book.bench.places book begins.command) ≡ None → began.verdict ≡ None
   none-then none = sym verdict-is ∙ none
@@ -149,7 +245,7 @@ module _ (book : Plain) (actor : Actor) (begins : Beginning) (whole : Whole book
 
   -- a command that begins stands where its first task says, and holds nothing
   pub record StandsFirst (task : Task) : Type 0 where
-    pub stands : TaskStands (ground_at book.seed (begun_seen task book.bench) machine') task began
+    pub stands : TaskStands (ground_at tried' book.seed (begun_seen task book.bench) machine') task began
     pub empty : held_in task ≡ []
 
   accepted-stands : began.verdict ≡ None
@@ -158,8 +254,8 @@ module _ (book : Plain) (actor : Actor) (begins : Beginning) (whole : Whole book
       → StandsFirst task
   accepted-stands none accepted_it (Some user) of task (first, is_first, shows) =
       let line = timeline book.bench.disk machine in
-      let vault = vault_of book.seed book.bench.store in
-      let share = share_of (user_of first) (ground_of book) in
+      let vault = vault_of (tried_in book) book.seed book.bench.store in
+      let share = share' (user_of first) shows.owned in
       let present : (facts_in book.bench.places book begins.command).present
       ≡ is_some (own_record (own_of (user_of first) line)) =
       ap (λ f. f.present) (facts-agree (user_of first) shows.owned)
@@ -174,7 +270,7 @@ module _ (book : Plain) (actor : Actor) (begins : Beginning) (whole : Whole book
         stands = subst (λ b. Rests (rest_of first) b began share) (sym whole.agrees.boot)
             (subst (λ b. Rests (rest_of first) book.tracker.boot b share) (same_began none)
             (shows.rests (facts_in book.bench.places book begins.command) share present installed accepted_it
-            whole.seeded (to-try begins.command own accepted_it (user_of first) shows.owned)));
+            whole.seeded (knows-slots accepted_it (user_of first) shows.owned)));
         empty = shows.held;
       })
   accepted-stands none accepted_it None of task first =
@@ -311,8 +407,9 @@ module _ (book : Plain) (actor : Actor) (begins : Beginning) (whole : Whole book
   -- a recovery begins where nobody runs, and what else begins leaves the ground
   ground-stays : (task : Task) → StandsFirst task → (other : Actor) (o : Running) → other ≢ actor
       → map.get book.docket.running other ≡ Some o → (b : BeganCommand) → TaskStands (ground_of book) o.task b
-      → TaskStands (ground_at book.seed (begun_seen task book.bench) machine') o.task b
-  ground-stays (Using t) first other o differ was b stands = stands
+      → TaskStands (ground_at tried' book.seed (begun_seen task book.bench) machine') o.task b
+  ground-stays (Using t) first other o differ was b stands =
+      stands-more (ground_of book) tried' more-tried o.task b stands
   ground-stays (Recovers recovery) first other o differ was b stands =
       absurd (nobody book.tracker.phase (sym whole.agrees.phase ∙ first.stands.1.0) whole.phase takes)
     where
@@ -320,8 +417,10 @@ module _ (book : Plain) (actor : Actor) (begins : Beginning) (whole : Whole book
       nobody Up down phase takes = cc
       nobody Down down phase takes = differ (phase.1 other o was ∙ sym takes)
       nobody Halted down phase takes = takes
-  ground-stays (Refusal reply) first other o differ was b stands = stands
-  ground-stays (Fault device held) first other o differ was b stands = stands
+  ground-stays (Refusal reply) first other o differ was b stands =
+      stands-more (ground_of book) tried' more-tried o.task b stands
+  ground-stays (Fault device held) first other o differ was b stands =
+      stands-more (ground_of book) tried' more-tried o.task b stands
 
   run-now : (other : Actor) → other ≢ actor → (o : Running) → map.get running' other ≡ Some o
       → RunsOn ground' machine' other o
@@ -372,7 +471,8 @@ module _ (book : Plain) (actor : Actor) (begins : Beginning) (whole : Whole book
   -- so the Book is whole, where what doesn't speak of the machine stands
   pub whole-begun : Steady after_begins → Whole after_begins
   whole-begun steady =
-      whole-of after_begins machine' (machine_after-append book.ledger.entries entry)
+      whole-of after_begins machine' tried' (machine_after-append book.ledger.entries entry)
+      (tried-with book.seed book.ledger.entries (Some entry))
       (legal-append book.ledger.entries entry whole.legal (record {
         own = sym own;
         idle = λ n. if-nothing-on n (map.get machine.running n) refl;
@@ -386,7 +486,10 @@ module _ (book : Plain) (actor : Actor) (begins : Beginning) (whole : Whole book
           durable = whole.agrees.durable;
           pending = whole.agrees.pending;
         };
-        worlds = whole.worlds;
+        worlds = worlds-later (vault_of (tried_in book) book.seed book.bench.store)
+            (vault_of tried' book.seed book.bench.store) (timeline book.bench.disk machine)
+            (record { level = omega arith; seed = refl; attempts = more-tried }) (λ blob entry live. live)
+            whole.worlds;
         numbers = numbers-now;
         run = at_actors actor (λ a. (o : Running) → map.get running' a ≡ Some o → RunsOn ground' machine' a o)
             (λ o at. subst (RunsOn ground' machine' actor) (same_Some mine o (sym here ∙ at)) (record {

@@ -28,7 +28,9 @@ use Rattle.vold_book.specs.State.{Plain, ground_of}
 use Rattle.vold_book.specs.Tasks.{Plans, TaskAfter, HearsMade}
 use Rattle.vold_book.specs.Turns.{Making, after_call}
 use Rattle.vold_book.specs.Whole.{Whole}
-use Rattle.vold_book.proofs.Moves.{Moves, after_of, whole-moved, machine-with}
+use Rattle.journal_model.specs.Machine.{machine_after}
+use Rattle.vold_book.specs.Parts.{with_entry}
+use Rattle.vold_book.proofs.Moves.{Moves, after_of, tried_then, whole-moved, machine-with, tried-with}
 use Rattle.vold_book.proofs.Planned.{runs-up}
 use Rattle.vold_book.proofs.PlannedRecovery.{few-listed}
 use Rattle.vold_book.proofs.RecoveryTurns.{recovery-fits, recovery-heard, recovery-moves}
@@ -92,7 +94,7 @@ module _ (book : Plain) (actor : Actor) (it : Running) (whole : Whole book) (cal
           (λ phase stands is other. runs-up book actor it plans.runs phase stands other)
           change bench call device after.blobs plans.shows is_made after.all)
   goes (Recovers recovery) plans =
-      let is = recovers-it (ground_of book) plans.on.began it.task (Recovers recovery) plans.job recovery plans.worked
+      let is = recovers-it (ground_of book) plans.on.began it.task (Recovers recovery) plans.jobs recovery plans.worked
       refl in record {
         fits = recovery-fits book actor it recovery whole is (Recovers recovery) call change plans
             (few-listed book whole);
@@ -207,9 +209,12 @@ module _ (book : Plain) (actor : Actor) (it : Running) (making : Making) (whole 
           store = store.whole;
           level = store.level ∙ whole.level ∙ sym stays.level;
           current = store.current whole.current;
-          ring = subst (RingStands book.seed bench.keys)
-              (sym (machine-with book.ledger.entries (after_of book it.number making made bench).entry))
-              (ring-called book actor it making whole plans made bench is_made);
+          ring = let entry = (after_of book it.number making made bench).entry in
+              subst (λ t. RingStands t book.seed bench.keys (machine_after (with_entry book.ledger.entries entry)))
+              (sym (tried-with book.seed book.ledger.entries entry))
+              (subst (RingStands (tried_then book (after_of book it.number making made bench)) book.seed bench.keys)
+              (sym (machine-with book.ledger.entries entry))
+              (ring-called book actor it making whole plans made bench is_made));
           clean = clean-called book actor it making bench whole plans made is_made after long;
           small = small-called book whole.small actor it plans.runs making made bench
               (call-falls book actor it making plans made after bench is_made whole (hears-whole made long))

@@ -8,8 +8,6 @@ use Rattle.tree_model.specs.Counted.{Rose}
 use Rattle.journal_model.specs.declared.commands.Actor.{Actor}
 use Rattle.journal_model.specs.declared.commands.Command.{Command}
 use Rattle.journal_model.specs.declared.commands.Reply.{Reply}
-use Rattle.journal_model.specs.declared.commands.Reply.TheVariants.{Done, Ended, WrongSecret, UserExists, TooManyUsers}
-use Rattle.journal_model.specs.declared.commands.Reply.TheVariants.{NoUser, NotInstalled, Ready}
 use Rattle.journal_model.specs.declared.commands.Reply.TheVariants.{TreeFault, StoreFault, RingFault}
 use Rattle.journal_model.specs.declared.entries.Device.{Device}
 use Rattle.journal_model.specs.declared.entries.Device.TheVariants.{Tree as TreeDevice, Store as StoreDevice}
@@ -84,39 +82,10 @@ due-fault RingDevice task fault = ap (due_in RingDevice) fault.is
 
 due-told : (device : Device) (reply : Reply) (task : Task) → (reply ≡ fault_of device → IsFault device task)
     → charge_of device reply ≤ due_in device task
-due-told TreeDevice Done task told = omega arith
-due-told TreeDevice (Ended count) task told = omega arith
-due-told TreeDevice WrongSecret task told = omega arith
-due-told TreeDevice UserExists task told = omega arith
-due-told TreeDevice TooManyUsers task told = omega arith
-due-told TreeDevice NoUser task told = omega arith
-due-told TreeDevice NotInstalled task told = omega arith
-due-told TreeDevice Ready task told = omega arith
 due-told TreeDevice TreeFault task told = let e = due-fault TreeDevice task (told refl) in omega (arith, e)
-due-told TreeDevice StoreFault task told = omega arith
-due-told TreeDevice RingFault task told = omega arith
-due-told StoreDevice Done task told = omega arith
-due-told StoreDevice (Ended count) task told = omega arith
-due-told StoreDevice WrongSecret task told = omega arith
-due-told StoreDevice UserExists task told = omega arith
-due-told StoreDevice TooManyUsers task told = omega arith
-due-told StoreDevice NoUser task told = omega arith
-due-told StoreDevice NotInstalled task told = omega arith
-due-told StoreDevice Ready task told = omega arith
-due-told StoreDevice TreeFault task told = omega arith
 due-told StoreDevice StoreFault task told = let e = due-fault StoreDevice task (told refl) in omega (arith, e)
-due-told StoreDevice RingFault task told = omega arith
-due-told RingDevice Done task told = omega arith
-due-told RingDevice (Ended count) task told = omega arith
-due-told RingDevice WrongSecret task told = omega arith
-due-told RingDevice UserExists task told = omega arith
-due-told RingDevice TooManyUsers task told = omega arith
-due-told RingDevice NoUser task told = omega arith
-due-told RingDevice NotInstalled task told = omega arith
-due-told RingDevice Ready task told = omega arith
-due-told RingDevice TreeFault task told = omega arith
-due-told RingDevice StoreFault task told = omega arith
 due-told RingDevice RingFault task told = let e = due-fault RingDevice task (told refl) in omega (arith, e)
+due-told device reply task told = omega arith
 
 pub due-first : (device : Device) (command : Command) (start : Start) (verdict : Option Reply)
     (task : Task)

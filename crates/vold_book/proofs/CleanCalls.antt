@@ -47,7 +47,7 @@ use Rattle.vold_book.specs.declared.tasks.Running.{Running}
 use Rattle.vold_book.specs.declared.tasks.Task.{Task}
 use Rattle.vold_book.specs.declared.tasks.Task.TheVariants.{User as Using, Recovery as Recovers, Refusal, Fault}
 use Rattle.vold_book.specs.Recovery.{RecoveryCalls}
-use Rattle.vold_book.specs.State.{Plain, Ground, machine_of, timeline, ground_of, vault_of}
+use Rattle.vold_book.specs.State.{Plain, Ground, machine_of, timeline, ground_of, tried_in, vault_of}
 use Rattle.vold_book.specs.Tasks.{held_in, TaskStands, TaskShows, scene_of, task_heard, TaskAfter}
 use Rattle.vold_book.specs.Tasks.{Plans}
 use Rattle.vold_book.specs.Turns.{Making, after_call}
@@ -140,7 +140,8 @@ module _ (book : Plain) (whole : Whole book) (actor : Actor) (it then : Running)
     user-done bench (Op user op names) change answer stands does long after =
         clean-renamed book whole actor it then runs bench user op stands.gains
         (subst (λ u. Renames book.bench.disk u op stands.gains []) (sym stands.mine)
-        (renames-gained (sealed (vault_of book.seed book.bench.store)) (timeline book.bench.disk (machine_of book))
+        (renames-gained (sealed (vault_of (tried_in book) book.seed book.bench.store))
+        (timeline book.bench.disk (machine_of book))
         (user_of task) whole.worlds op stands.gains stands.gained))
         (subst (λ blobs. LetsGo blobs stands.gains (held_of then)) held
         (subst (LetsGo (rest_of task).held stands.gains) (sym (subst HeldAfter does.0 after)) stands.lets_go))
@@ -178,7 +179,8 @@ module _ (book : Plain) (whole : Whole book) (actor : Actor) (it then : Running)
       → Does book.bench bench call answer → Clean bench
   recovery-done recovery none same down bench (Op user op names) answer calls does =
       clean-renamed book whole actor it then runs bench user op []
-      (renames-gained (sealed (vault_of book.seed book.bench.store)) (timeline book.bench.disk (machine_of book))
+      (renames-gained (sealed (vault_of (tried_in book) book.seed book.bench.store))
+      (timeline book.bench.disk (machine_of book))
       user whole.worlds op [] calls.gained)
       (lets-none (held_of it) (held_of then) same) (ap sensed does.1)
   recovery-done recovery none same down bench Sync answer calls does =

@@ -26,7 +26,7 @@ use Rattle.step_core.specs.Table.{NamedPlaces}
 use Rattle.bench.specs.Bench.{IsKnown, AreUnnamed, Nothing, Unnamed, Named, named_in, listed}
 use Rattle.bench.specs.Known.{Knows}
 use Rattle.vold_book.specs.Recovery.{IsSettled}
-use Rattle.vold_book.specs.State.{Plain, machine_of, ground_of, vault_of}
+use Rattle.vold_book.specs.State.{Plain, machine_of, ground_of, tried_in, vault_of}
 use Rattle.vold_book.specs.Whole.{Whole, PhaseStands, all_held, custody_of}
 use Rattle.vold_book.proofs.HeldBlobs.{held-from}
 use Rattle.vold_book.proofs.NamesLive.{left-stands, named-long}
@@ -110,7 +110,8 @@ module _ (book : Plain) (whole : Whole book) where
   view-known knows blob named =
       let stands = left-stands book whole (view book.bench.disk) (view-left book.bench.disk) in
       names-known book.bench.places (view book.bench.disk) knows named.user blob
-      (named-long (vault_of book.seed book.bench.store) named.user (part_of (view book.bench.disk) named.user) _ blob
+      (named-long (vault_of (tried_in book) book.seed book.bench.store) named.user
+      (part_of (view book.bench.disk) named.user) _ blob
       (stands.1.user named.user) named.there) named.there.site named.there.names
 
   -- what a recovery finds is listed

@@ -48,7 +48,7 @@ use Rattle.vold_book.proofs.HeldBlobs.{clean-held, clean-ready}
 use Rattle.vold_book.proofs.Custodies.{relisted, clean-listed, holds-alone}
 use Rattle.vold_book.proofs.CleanListing.{down-holds}
 use Rattle.vold_book.proofs.Shown.{next_reply}
-use Rattle.vold_book.proofs.Worked.{stands-now, held-now}
+use Rattle.vold_book.proofs.Worked.{after-jobs, stands-now, held-now}
 
 -- what begins holds nothing
 first-holds : (command : Command) (start : Start) (of : Option ℕ) (task : Task)
@@ -138,13 +138,11 @@ module _ (book : Plain) (actor : Actor) (begins : Beginning) (start : Start) (wh
       by (Fault device held) first = begun-same
 
 -- a command that is told its reply lists what it holds
-lists-worked : (ground : Ground) (began : Began) (task now : Task) (job : Option Job)
-    → Worked ground began task now job → lists_with now ≡ lists_with task
-lists-worked ground began task now None worked = ap lists_with worked
-lists-worked ground began (Using task) now (Some job) worked = ap lists_with worked.0
-lists-worked ground began (Recovers recovery) now (Some job) worked = absurd worked
-lists-worked ground began (Refusal reply) now (Some job) worked = absurd worked
-lists-worked ground began (Fault device held) now (Some job) worked = absurd worked
+lists-worked : (ground : Ground) (began : Began) (task now : Task) (jobs : List Job)
+    → Worked ground began task now jobs → lists_with now ≡ lists_with task
+lists-worked ground began task now jobs =
+    after-jobs ground began (λ task now. lists_with now ≡ lists_with task) (λ task. refl)
+    (λ task job now shows later. later) jobs task now
 
 lists-held : (ground : Ground) (began : Began) (now : Task) (reply : Reply)
     → TaskShows ground began now (ReplyNext reply) → held_in now ≡ lists_with now
@@ -166,7 +164,7 @@ module _ (book : Plain) (actor : Actor) (it : Running) (now : Task) (command : C
   began = plans.on.began
 
   lists-now : lists_with now ≡ lists_with it.task
-  lists-now = lists-worked (ground_of book) began it.task now plans.job plans.worked
+  lists-now = lists-worked (ground_of book) began it.task now plans.jobs plans.worked
 
   -- it holds what it lists
   holds-listed : held_of it ≡ lists_with it.task

@@ -19,7 +19,7 @@ use Rattle.keystore_model.proofs.Elements.{Contains-none, Contains-first}
 use Rattle.journal_model.specs.declared.commands.Actor.{Actor}
 use Rattle.journal_model.specs.declared.commands.Actor.TheVariants.{User}
 use Rattle.journal_model.specs.declared.commands.Command.{Command}
-use Rattle.journal_model.specs.declared.commands.Command.TheVariants.{Create, Unlock, Lock, Recover}
+use Rattle.journal_model.specs.declared.commands.Command.TheVariants.{Create}
 use Rattle.journal_model.specs.declared.commands.Reply.{Reply}
 use Rattle.journal_model.specs.declared.phase.Phase.TheVariants.{Up}
 use Rattle.journal_model.specs.Actor.{actor_total, actor_exact}
@@ -35,7 +35,7 @@ use Rattle.vold_book.specs.declared.tasks.Task.{Task}
 use Rattle.vold_book.specs.declared.tasks.Task.TheVariants.{User as Using, Recovery as Recovers, Refusal, Fault}
 use Rattle.vold_book.specs.Crowds.{user_at, users_in, unless_known, made_by, coming_by, coming_of, users_coming}
 use Rattle.vold_book.specs.Crowds.{is_crowded}
-use Rattle.vold_book.specs.State.{Docket, Plain, Ground, machine_of, timeline, ground_of, vault_of}
+use Rattle.vold_book.specs.State.{Docket, Plain, Ground, machine_of, timeline, ground_of, tried_in, vault_of}
 use Rattle.vold_book.specs.Tasks.{TaskStands}
 use Rattle.vold_book.specs.Whole.{Whole, PhaseStands}
 use Rattle.vold_book.proofs.Counted.{NoneTwice, same-count, all_of, all-found, from-all, all-once, values-all}
@@ -72,9 +72,7 @@ unless-short (Some named) user = omega arith
 made-short : (places : NamedPlaces) (command : Option Command) → length (made_by places command) ≤ 1
 made-short places None = omega arith
 made-short places (Some (Create user)) = unless-short (map.get places (De user)) user
-made-short places (Some (Unlock user secret)) = omega arith
-made-short places (Some (Lock user)) = omega arith
-made-short places (Some Recover) = omega arith
+made-short places (Some command) = omega arith
 
 coming-short : (places : NamedPlaces) (command : Option Command) (task : Task)
     → length (coming_by places command task) ≤ 1
@@ -95,18 +93,14 @@ new-short : (verdict : Option Reply) (users : Users) (command : Command)
     → length (new_user_unless verdict users command) ≤ 1
 new-short (Some refusal) users command = omega arith
 new-short None users (Create user) = cond-short (map.contains_key users user) user
-new-short None users (Unlock user secret) = omega arith
-new-short None users (Lock user) = omega arith
-new-short None users Recover = omega arith
+new-short None users command = omega arith
 
 -- who is being created is whom the command creates
 new-creates : (verdict : Option Reply) (users : Users) (command : Command) (u : ℕ)
     → Contains (new_user_unless verdict users command) u → command ≡ Create u
 new-creates (Some refusal) users command u has = absurd (Contains-none u has)
 new-creates None users (Create user) u has = ap Create (cond-single (map.contains_key users user) user u has)
-new-creates None users (Unlock user secret) u has = absurd (Contains-none u has)
-new-creates None users (Lock user) u has = absurd (Contains-none u has)
-new-creates None users Recover u has = absurd (Contains-none u has)
+new-creates None users command u has = absurd (Contains-none u has)
 
 same-number : (found : Option Running) (n m : ℕ) → IsSomeAnd found (λ it. it.number ≡ n)
     → IsSomeAnd found (λ it. it.number ≡ m) → n ≡ m
@@ -167,9 +161,7 @@ module _ (places : NamedPlaces) (users : Users)
   made-same : (command : Command) → made_by places (Some command) ≡ new_user users command
   made-same (Create user) =
       unless-same (map.get places (De user)) user (map.contains_key users user) (known user)
-  made-same (Unlock user secret) = refl
-  made-same (Lock user) = refl
-  made-same Recover = refl
+  made-same command = refl
 
   accepted-same : (began : Began) → began.verdict ≡ None
       → made_by places (Some began.command) ≡ creating users began
@@ -271,7 +263,8 @@ module _ (book : Plain) (whole : Whole book) (up : book.tracker.phase ≡ Up) wh
 
   known-now : (user : ℕ) → is_some (map.get book.bench.places (De user)) ≡ map.contains_key users_now user
   known-now user = knows.there (De user)
-      ∙ there-user (vault_of book.seed book.bench.store) (timeline book.bench.disk machine) user whole.worlds
+      ∙ there-user (vault_of (tried_in book) book.seed book.bench.store) (timeline book.bench.disk machine) user
+      whole.worlds
 
   on-now : (actor : Actor) (it : Running) → map.get book.docket.running actor ≡ Some it
       → Matches book.bench.places users_now book.docket.commands machine.running actor it

@@ -2,11 +2,14 @@ pub mod Tracked
 pub mod StepsMade
 pub mod Numbers
 pub mod Moves
+pub mod Told
+pub mod Noted
 pub mod Entered
 pub mod HeardCalls
 pub mod Counted
 pub mod SlotsToTry
 pub mod CountedUsers
+pub mod KnownSlots
 pub mod Plains
 pub mod HeldBlobs
 pub mod NamesLive

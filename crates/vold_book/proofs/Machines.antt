@@ -72,7 +72,7 @@ module _ {D E F : Type 0} (senses : Senses D E F) (tree : D) (store : E) (ring :
         store = store-empty 1;
         level = refl;
         current = λ blob entry live. absurd (none-some entry live);
-        ring = ring-empty book.seed first_machine refl;
+        ring = ring-empty _ book.seed first_machine refl;
         clean = clean-opened bench (opened_at tree_counts store_counts ring_counts) book.seed refl refl;
         small = small-opened bench (opened_at tree_counts store_counts ring_counts) book.seed 1 refl refl refl;
         charged = opened-charged bench book.seed;

@@ -1,11 +1,12 @@
 -- The one theorem of turns: a call, made or failed, that leaves what it has to keeps a Book whole, for any task.
-use Rattle.std.proofs.Common.{◌≡◌, ◌≢◌, ℕ, inl, inr, List, length, refl, sym, ap, ◌∙◌, subst, arith}
+use Rattle.std.proofs.Common.{◌≡◌, ◌≢◌, ℕ, inl, inr, List, [], ◌∷◌, length, refl, sym, ap, ◌∙◌, subst, arith}
 use Rattle.std.proofs.lemmas.Option.{none-some, same_Some}
 use Rattle.std.specs.Prelude.{◌≤◌, Option, Some, None, is_some, IsSomeAnd, IfSome, Contains, slice_get}
 use Rattle.std.specs.Cmp.{nat_cmp_total}
 use Rattle.std.specs.FinMap as map
 use Rattle.std.specs.FinMap.{nat_cmp-IsAntisymmetric}
 use Rattle.tree_model.specs.Disk.{view}
+use Rattle.tree_model.proofs.Parts.{fun_ext}
 use Rattle.tree_model.proofs.Maps.{decide_key, get-insert_same, get-insert_other}
 use Rattle.journal_model.specs.declared.commands.Actor.{Actor}
 use Rattle.journal_model.specs.declared.commands.Actor.TheVariants.{Boot}
@@ -24,29 +25,32 @@ use Rattle.blob_custody.specs.Custody.{IsClean}
 use Rattle.user_world.specs.Timelines.{OwnWorldsStand}
 use Rattle.user_world.proofs.Timelines.{line-images}
 use Rattle.key_directory.specs.Opened.{AreCurrent}
-use Rattle.key_directory.specs.Vaults.{sealed, KeepsEntry}
+use Rattle.key_directory.specs.Tried.{attempts_of}
+use Rattle.key_directory.specs.Vaults.{Attempts, Extends, sealed, KeepsEntry}
+use Rattle.key_directory.proofs.Tried.{tried}
 use Rattle.tree_model.specs.declared.blobs.Blob.{Blob}
 use Rattle.bench.specs.declared.made.Made.{Made}
 use Rattle.bench.specs.Bench.{Plain as Seen, was_done}
 use Rattle.bench.specs.Known.{Knows}
 use Rattle.vold_book.specs.declared.tasks.Running.{Running}
 use Rattle.vold_book.specs.declared.tasks.Task.{Task}
-use Rattle.vold_book.specs.Entries.{entry_of, machine_with, may_with, made_entry}
+use Rattle.vold_book.specs.Entries.{entry_of, machine_with, tried_with, may_with, made_entry}
 use Rattle.vold_book.specs.Installed.{RingStands}
 use Rattle.vold_book.specs.Parts.{TrackerState, Agrees, with_entry, noted}
-use Rattle.vold_book.specs.State.{Plain, Ground, machine_of, timeline, ground_at, ground_of, vault_of}
+use Rattle.vold_book.specs.State.{Plain, Ground, machine_of, tried_in, timeline, ground_at, ground_of, vault_of}
 use Rattle.vold_book.specs.Tasks.{TaskStands, RunsOn, HoldsOwn, held_in}
 use Rattle.vold_book.specs.Turns.{Making}
 use Rattle.vold_book.specs.Whole.{WasGiven, Numbers, PhaseStands, IsCharged, AllRun, IsSmall, custody_of, Whole}
 use Rattle.vold_book.proofs.Numbers.{IsQuiet, numbers-quiet, numbers-running}
 
--- what stands of a Book on a machine
-pub record Core (book : Plain) (machine : Machine) : Type 0 where
+-- what stands of a Book on a machine, where so much was tried with secrets
+pub record Core (book : Plain) (machine : Machine) (tried : ℕ → Attempts) : Type 0 where
   pub agrees : Agrees book.tracker machine book.bench.disk
-  pub worlds : OwnWorldsStand (sealed (vault_of book.seed book.bench.store)) (timeline book.bench.disk machine)
+  pub worlds : OwnWorldsStand (sealed (vault_of tried book.seed book.bench.store))
+      (timeline book.bench.disk machine)
   pub numbers : Numbers book.docket book.ledger.entries machine
   pub run : (actor : Actor) (it : Running) → map.get book.docket.running actor ≡ Some it
-      → RunsOn (ground_at book.seed book.bench machine) machine actor it
+      → RunsOn (ground_at tried book.seed book.bench machine) machine actor it
   pub all : AllRun machine book.docket.running
   pub phase : PhaseStands book.tracker.phase book machine
 
@@ -56,16 +60,17 @@ pub record Steady (book : Plain) : Type 0 where
   pub seeded : book.boot_seed ≡ boot_seed_of book.seed book.tracker.boot
   pub store : IsStore book.bench.store
   pub level : book.bench.store.level ≡ book.tracker.level
-  pub current : AreCurrent (vault_of book.seed book.bench.store)
-  pub ring : RingStands book.seed book.bench.keys (machine_of book)
+  pub current : AreCurrent (vault_of (tried_in book) book.seed book.bench.store)
+  pub ring : RingStands (tried_in book) book.seed book.bench.keys (machine_of book)
   pub clean : IsClean (custody_of book)
   pub small : IsSmall book
   pub charged : (device : Device) → IsCharged book device
 
-pub whole-of : (book : Plain) (machine : Machine) → machine_of book ≡ machine → IsLegal book.ledger.entries
-    → Steady book → Core book machine → Whole book
-whole-of book machine is legal steady core =
-    let here : Core book (machine_of book) = subst (Core book) (sym is) core in record {
+pub whole-of : (book : Plain) (machine : Machine) (so_far : ℕ → Attempts) → machine_of book ≡ machine
+    → tried_in book ≡ so_far → IsLegal book.ledger.entries → Steady book → Core book machine so_far → Whole book
+whole-of book machine so_far is told legal steady core =
+    let here : Core book (machine_of book) (tried_in book) =
+    subst (λ m. Core book m (tried_in book)) (sym is) (subst (Core book machine) (sym told) core) in record {
       legal = legal;
       agrees = here.agrees;
       short = steady.short;
@@ -73,7 +78,7 @@ whole-of book machine is legal steady core =
       store = steady.store;
       level = steady.level;
       current = steady.current;
-      images = line-images (sealed (vault_of book.seed book.bench.store))
+      images = line-images (sealed (vault_of (tried_in book) book.seed book.bench.store))
           (timeline book.bench.disk (machine_of book)) here.worlds;
       worlds = here.worlds;
       ring = steady.ring;
@@ -96,6 +101,25 @@ module _ (entries : List Entry) where
       → machine_after (with_entry entries entry) ≡ machine_with entries (machine_after entries) entry
   machine-with None = refl
   machine-with (Some entry) = machine_after-append entries entry
+
+-- what was tried with one more entry, or none
+pub tried-with : (seed : List ℕ) (entries : List Entry) (entry : Option Entry)
+    → attempts_of seed (with_entry entries entry)
+    ≡ tried_with seed (machine_after entries) (attempts_of seed entries) entry
+tried-with seed entries None = refl
+tried-with seed entries (Some entry) = fun_ext _ _ (λ user. tried.entry seed user entries entry)
+
+-- what was tried stays
+pub same-tried : (attempts : Attempts) → Extends attempts attempts
+same-tried attempts = record { additions = λ added has. has; secrets = λ secret has. has }
+
+-- by then no less was tried
+pub tried-more : (book : Plain) (entry : Option Entry) (user : ℕ)
+    → Extends (tried_in book user) (tried_with book.seed (machine_of book) (tried_in book) entry user)
+tried-more book None user = same-tried (tried_in book user)
+tried-more book (Some entry) user = subst (λ all. Extends (tried_in book user) (all user))
+    (tried-with book.seed book.ledger.entries (Some entry))
+    (tried.extends book.seed user book.ledger.entries (entry ∷ []))
 
 -- what holds of one actor and of all others holds of each
 pub at_actors : (actor : Actor) (P : Actor → Type 0) → P actor → ((other : Actor) → other ≢ actor → P other)
@@ -121,19 +145,22 @@ pub record After : Type 0 where
   pub task : Task
   pub entry : Option Entry
 
--- the machine and the ground then
+-- the machine then, what was tried by then, and the ground
 abbrev pub machine_then : Plain → After → Machine
 machine_then book after = machine_with book.ledger.entries (machine_of book) after.entry
 
+abbrev pub tried_then : Plain → After → (ℕ → Attempts)
+tried_then book after = tried_with book.seed (machine_of book) (tried_in book) after.entry
+
 abbrev pub ground_then : Plain → After → Ground
-ground_then book after = ground_at book.seed after.bench (machine_then book after)
+ground_then book after = ground_at (tried_then book after) book.seed after.bench (machine_then book after)
 
 -- what it has to leave, so that the Book is whole
 pub record Moves (book : Plain) (actor : Actor) (number : ℕ) (after : After) : Type 0 where
   pub may : may_with book.ledger.entries (machine_of book) after.entry
   pub quiet : IfSome after.entry IsQuiet
   pub agrees : Agrees after.tracker (machine_then book after) after.bench.disk
-  pub worlds : OwnWorldsStand (sealed (vault_of book.seed after.bench.store))
+  pub worlds : OwnWorldsStand (sealed (vault_of (tried_then book after) book.seed after.bench.store))
       (timeline after.bench.disk (machine_then book after))
   pub boot : (machine_then book after).boot ≡ (machine_of book).boot
   -- the actor's own command, and the others
@@ -293,7 +320,8 @@ module _ (book : Plain) (actor : Actor) (it : Running) (callers : List Actor) (a
   pub whole-moved : Steady (moved book actor it.number callers after)
       → Whole (moved book actor it.number callers after)
   whole-moved steady =
-      whole-of (moved book actor it.number callers after) then (machine-with book.ledger.entries after.entry)
+      whole-of (moved book actor it.number callers after) then (tried_then book after)
+      (machine-with book.ledger.entries after.entry) (tried-with book.seed book.ledger.entries after.entry)
       (legal-with book.ledger.entries after.entry whole.legal moves.may) steady (record {
         agrees = moves.agrees;
         worlds = moves.worlds;

@@ -37,24 +37,26 @@ use Rattle.key_directory.specs.Shape.{length_fault, first_fault, tests, shape_un
 use Rattle.key_directory.specs.Vaults.{Vault, OpensAt, secret_at, sealed}
 use Rattle.key_directory.proofs.Apart.{known-there, part-owns, names-apart}
 use Rattle.task_turns.specs.Names.{Gains}
-use Rattle.vold_book.specs.State.{Plain, vault_of}
+use Rattle.vold_book.specs.State.{Plain, tried_in, vault_of}
 use Rattle.vold_book.specs.Whole.{Whole}
 
 module _ (book : Plain) (whole : Whole book) where
   -- every tree that a stop can leave stands for a map of users
   pub left-stands : (left : Tree) → IsLeft book.bench.disk left
-      → (users : Users) × StandsFor (sealed (vault_of book.seed book.bench.store)) left users
+      → (users : Users) × StandsFor (sealed (vault_of (tried_in book) book.seed book.bench.store)) left users
   left-stands left is = (_, whole.images.stands is.keep left is.short is.image)
 
   pub names-live : NamesLive book.bench.disk book.bench.store.entries
   names-live = record {
     live = λ left is blob named.
         let stands = left-stands left is in
-        ap is_some (part-owns (vault_of book.seed book.bench.store) named.user (part_of left named.user)
+        ap is_some (part-owns (vault_of (tried_in book) book.seed book.bench.store) named.user
+        (part_of left named.user)
         (map.get stands.0 named.user) blob (stands.1.user named.user) named.there).live;
     one_user = λ user other blob names also.
         let stands = left-stands (view book.bench.disk) (view-left book.bench.disk) in
-        (names-apart (vault_of book.seed book.bench.store) (view book.bench.disk) stands.0 blob stands.1 user other
+        (names-apart (vault_of (tried_in book) book.seed book.bench.store) (view book.bench.disk) stands.0 blob
+        stands.1 user other
         names also).one_user;
   }
 

@@ -1,7 +1,7 @@
 -- What a recovery does next is what the Book plans for its actor, and its calls have the room that they take.
 use Rattle.std.proofs.Common.{◌≡◌, ◌+◌, ◌^◌, ◌<◌, ◌≤◌, Bool, true, false, List, [], ◌∷◌, length}
 use Rattle.std.proofs.Common.{refl, sym, ◌∙◌, subst, arith}
-use Rattle.std.specs.Prelude.{Some, None, not, IsTrue, ◌↔◌}
+use Rattle.std.specs.Prelude.{Some, not, IsTrue, ◌↔◌}
 use Rattle.std.specs.FinMap as map
 use Rattle.tree_model.specs.declared.ops.Op.{Op}
 use Rattle.tree_model.specs.Disk.{view}
@@ -74,7 +74,7 @@ module _ (book : Plain) (whole : Whole book) where
     planned-recovery next turns = record {
       runs = runs;
       on = on;
-      job = None;
+      jobs = [];
       worked = refl;
       shows = subst (λ task. TaskShows (ground_of book) on.began task next) (sym is) (shows next turns);
     }

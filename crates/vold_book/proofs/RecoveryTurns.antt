@@ -1,5 +1,5 @@
 -- A call of a recovery leaves the Book what it has to be left, whether the device did it or failed.
-use Rattle.std.proofs.Common.{◌≡◌, ◌≢◌, ℕ, ◌+◌, ◌^◌, ◌<◌, List, [], length, refl, sym, ap, ◌∙◌, subst}
+use Rattle.std.proofs.Common.{◌≡◌, ◌≢◌, ℕ, ◌+◌, ◌^◌, ◌<◌, List, [], ◌∷◌, length, refl, sym, ap, ◌∙◌, subst}
 use Rattle.std.proofs.Common.{false}
 use Rattle.std.proofs.lemmas.Option.{same_Some}
 use Rattle.std.specs.Prelude.{Option, Some, None, IsSomeAnd, Ok}
@@ -37,7 +37,7 @@ use Rattle.vold_book.specs.declared.tasks.Task.{Task}
 use Rattle.vold_book.specs.declared.tasks.Task.TheVariants.{Recovery as Recovers}
 use Rattle.vold_book.specs.Parts.{TrackerState, Agrees, noted}
 use Rattle.vold_book.specs.Recovery.{RecoveryRests, RecoveryCalls, RecoveryShows, recovery_after}
-use Rattle.vold_book.specs.State.{Plain, Ground, machine_of, timeline, ground_at, ground_of, vault_of}
+use Rattle.vold_book.specs.State.{Plain, Ground, machine_of, tried_in, timeline, ground_at, ground_of, vault_of}
 use Rattle.vold_book.specs.Tasks.{held_in, HoldsOwn, RunsOn, TaskStands, TaskShows, TaskAfter, TellsFault, Worked}
 use Rattle.vold_book.specs.Tasks.{Plans, HearsMade}
 use Rattle.vold_book.specs.Turns.{Making}
@@ -97,7 +97,7 @@ module _ (book : Plain) (actor : Actor) (number : ℕ) (recovery : Recovery) (wh
   line = timeline book.bench.disk machine
 
   abbrev meaning : Meaning
-  meaning = sealed (vault_of book.seed book.bench.store)
+  meaning = sealed (vault_of (tried_in book) book.seed book.bench.store)
 
   -- the machine is down
   pub recovery-down : book.tracker.phase ≡ Down
@@ -154,7 +154,7 @@ module _ (book : Plain) (actor : Actor) (number : ℕ) (recovery : Recovery) (wh
     store : bench.store ≡ book.bench.store
     agrees : Agrees tracker machine bench.disk
     worlds : OwnWorldsStand meaning (timeline bench.disk machine)
-    stands : TaskStands (ground_at book.seed bench machine) then on.began
+    stands : TaskStands (ground_at (tried_in book) book.seed bench machine) then on.began
     holds : held_in then ≡ []
     phase : tracker.phase ≡ book.tracker.phase
 
@@ -164,7 +164,8 @@ module _ (book : Plain) (actor : Actor) (number : ℕ) (recovery : Recovery) (wh
     may = tt;
     quiet = tt;
     agrees = still.agrees;
-    worlds = subst (λ store. OwnWorldsStand (sealed (vault_of book.seed store)) (timeline bench.disk machine))
+    worlds = subst (λ store. OwnWorldsStand (sealed (vault_of (tried_in book) book.seed store))
+        (timeline bench.disk machine))
         (sym still.store) still.worlds;
     boot = refl;
     mine = record {
@@ -177,7 +178,7 @@ module _ (book : Plain) (actor : Actor) (number : ℕ) (recovery : Recovery) (wh
     on_machine = λ n differ. refl;
     same_command = same_began;
     others = λ other o differ at. absurd (nobody-else other o differ at);
-    kept = λ blob. subst (λ store. KeepsEntry (ground_of book).vault (vault_of book.seed store) blob)
+    kept = λ blob. subst (λ store. KeepsEntry (ground_of book).vault (vault_of (tried_in book) book.seed store) blob)
         (sym still.store) (λ entry at. at);
     phase = still.phase;
     up = λ up. absurd (not_up up);
@@ -279,7 +280,7 @@ module _ (book : Plain) (actor : Actor) (number : ℕ) (recovery : Recovery) (wh
   failed-worlds : (call : Call) (bench : Seen) → RecoveryCalls (ground_of book) recovery call
       → IsFailed book.bench bench call → OwnWorldsStand meaning (timeline bench.disk machine)
   failed-worlds (OpCall owner op names) bench calls failed =
-      (step-failed meaning owner line None whole.worlds op bench.disk calls.step
+      (step-failed meaning owner line None whole.worlds op bench.disk calls.step (λ none. calls.step)
       (failed-disk book.bench bench owner op failed)).stands
   failed-worlds Sync bench calls failed = unmoved bench (ap (λ b. b.disk) failed)
   failed-worlds ListCall bench calls failed = unmoved bench (ap (λ b. b.disk) failed)
@@ -308,7 +309,7 @@ module _ (book : Plain) (actor : Actor) (number : ℕ) (recovery : Recovery) (wh
               (told call calls) made;
         };
         worlds = failed-worlds call bench calls made.1;
-        stands = subst (λ t. TaskStands (ground_at book.seed bench machine) t on.began) (sym tells.is)
+        stands = subst (λ t. TaskStands (ground_at (tried_in book) book.seed bench machine) t on.began) (sym tells.is)
             on.stands.0.verdict;
         holds = ap held_in tells.is ∙ tells.all;
         phase = stays.phase;
@@ -324,10 +325,10 @@ module _ (book : Plain) (actor : Actor) (number : ℕ) (recovery : Recovery) (wh
   by-made call (Failed device) then bench calls failed tells = failed-call call device then bench calls failed tells
 
 -- a recovery asks for no job
-no-job : (ground : Ground) (began : BeganCommand) (recovery : Recovery) (now : Task) (job : Option Job)
-    → Worked ground began (Recovers recovery) now job → now ≡ Recovers recovery
-no-job ground began recovery now None worked = worked
-no-job ground began recovery now (Some job) worked = absurd worked
+no-job : (ground : Ground) (began : BeganCommand) (recovery : Recovery) (now : Task) (jobs : List Job)
+    → Worked ground began (Recovers recovery) now jobs → now ≡ Recovers recovery
+no-job ground began recovery now [] worked = worked
+no-job ground began recovery now (job ∷ jobs) worked = absurd worked
 
 -- the same for what a recovery plans
 module _ (book : Plain) (actor : Actor) (it : Running) (recovery : Recovery) (whole : Whole book)
@@ -335,8 +336,8 @@ module _ (book : Plain) (actor : Actor) (it : Running) (recovery : Recovery) (wh
   module _ (now : Task) (call : Call) (change : Option LocalChange)
       (plans : Plans book actor it now (CallNext call change)) where
     same_now : now ≡ Recovers recovery
-    same_now = no-job (ground_of book) plans.on.began recovery now plans.job
-        (subst (λ t. Worked (ground_of book) plans.on.began t now plans.job) is plans.worked)
+    same_now = no-job (ground_of book) plans.on.began recovery now plans.jobs
+        (subst (λ t. Worked (ground_of book) plans.on.began t now plans.jobs) is plans.worked)
 
     shown : RecoveryShows (ground_of book) recovery (CallNext call change)
     shown = subst (λ t. TaskShows (ground_of book) plans.on.began t (CallNext call change)) same_now plans.shows

@@ -1,15 +1,12 @@
 -- A turn that gives a reply keeps a Book whole.
 use Rattle.std.proofs.Common.{◌≡◌, ◌≢◌, ℕ, ◌+◌, inl, inr, [], ◌∷◌, ◌++◌, refl, sym, ap, ◌∙◌, subst}
 use Rattle.std.proofs.lemmas.Option.{none-some, same_Some}
-use Rattle.std.specs.Prelude.{◌⊎◌, Bool, Some, None, is_some, IsSomeAnd, Contains, slice_get}
+use Rattle.std.specs.Prelude.{◌⊎◌, Some, None, IsSomeAnd, slice_get}
 use Rattle.std.specs.Cmp.{nat_cmp_total}
 use Rattle.std.specs.FinMap as map
 use Rattle.std.specs.FinMap.{nat_cmp-IsAntisymmetric}
 use Rattle.tree_model.specs.Disk.{view}
 use Rattle.tree_model.proofs.Maps.{get-remove_same, get-remove_other}
-use Rattle.tree_model.specs.declared.places.Class.{Class}
-use Rattle.key_ring.specs.Ring.{has_owner, key_of}
-use Rattle.key_ring.proofs.Owners.{found}
 use Rattle.journal_model.specs.declared.commands.Actor.{Actor}
 use Rattle.journal_model.specs.declared.commands.Reply.{Reply}
 use Rattle.journal_model.specs.declared.commands.Reply.TheVariants.{Ended}
@@ -21,13 +18,9 @@ use Rattle.journal_model.specs.Command.{actor_of}
 use Rattle.journal_model.specs.Machine.{Machine, Running as BeganCommand, after_entry, if_running, phase_after}
 use Rattle.journal_model.specs.Machine.{IsDurable, kind_of_reply, Outcome, Refusal as RefusalKind}
 use Rattle.journal_model.specs.Machine.{DidRecover, MayEnd, ComesTo, AllowsReply, evidence_of}
-use Rattle.journal_model.proofs.ByCommand.{phase-stays, outcome-more, user-stays}
+use Rattle.journal_model.proofs.ByCommand.{phase-stays, user-stays}
 use Rattle.journal_model.proofs.Steps.{machine_after-append, legal-append}
 use Rattle.task_turns.specs.declared.next.Next.TheVariants.{Reply as ReplyNext}
-use Rattle.user_world.specs.Changes.{local_of}
-use Rattle.user_world.proofs.Timelines.{logged-shown, durable-shown, known-shown}
-use Rattle.user_world.proofs.Worlds.{owned-change}
-use Rattle.task_turns.specs.Turns.{evidence_in}
 use Rattle.user_tasks.specs.Tasks.{user_of}
 use Rattle.vold_book.specs.declared.tasks.Running.{Running}
 use Rattle.vold_book.specs.declared.tasks.Task.{Task}
@@ -40,13 +33,14 @@ use Rattle.vold_book.specs.Turns.{IsTidied}
 use Rattle.blob_custody.specs.Custody.{IsListed}
 use Rattle.vold_book.proofs.Custodies.{relisted}
 use Rattle.journal_model.specs.declared.commands.Command.{Command}
-use Rattle.vold_book.specs.State.{Plain, Ground, machine_of, timeline, ground_of, share_of}
+use Rattle.vold_book.specs.State.{Plain, Ground, machine_of, tried_in, ground_of}
 use Rattle.vold_book.specs.Tasks.{TaskStands, RunsOn, TaskShows, Plans, lists_with, fault_of}
 use Rattle.vold_book.specs.Whole.{PhaseStands, AllRun, Whole}
-use Rattle.vold_book.proofs.Moves.{Steady, whole-of, runs_apart}
+use Rattle.vold_book.proofs.Moves.{Steady, whole-of, tried-with, runs_apart}
 use Rattle.vold_book.proofs.Numbers.{quiet-replied, numbers-quiet, numbers-running}
 use Rattle.vold_book.proofs.Plains.{replied_plain}
 use Rattle.vold_book.proofs.Shown.{next_reply}
+use Rattle.vold_book.proofs.Told.{outcome-told}
 use Rattle.vold_book.proofs.Worked.{stands-now, recovers-it}
 
 module _ (book : Plain) (actor : Actor) (it : Running) (now : Task) (reply : Reply) (whole : Whole book)
@@ -94,12 +88,6 @@ module _ (book : Plain) (actor : Actor) (it : Running) (now : Task) (reply : Rep
   durable-down down =
       (subst (λ phase. PhaseStands phase book machine) (sym whole.agrees.phase ∙ down) whole.phase).0
 
-  -- the machine knows whether a key is in the ring
-  key-shown : (user : ℕ) (class : Class) (there : Bool) → is_some (key_of book.bench.keys user class) ≡ there
-      → (evidence_of machine).has_key user class there
-  key-shown user class there has =
-      ap (λ all. has_owner all user class) whole.ring.owned ∙ found book.bench.keys user class ∙ has
-
   -- whatever the task, the reply may be given
   ends : Ends
   ends = by now refl (stands-now book actor it now (ReplyNext reply) plans) plans.shows
@@ -107,22 +95,11 @@ module _ (book : Plain) (actor : Actor) (it : Running) (now : Task) (reply : Rep
       by : (task : Task) → now ≡ task → TaskStands (ground_of book) task began
           → TaskShows (ground_of book) began task (ReplyNext reply) → Ends
       by (Using task) same stands shows =
-          let user = user_of task in
-          let line = timeline book.bench.disk machine in record {
-            may =
-                none-allows stands.accepted
+          record {
+            may = none-allows stands.accepted
                 (subst (λ kind. MayEnd kind (ComesTo machine began reply)) (sym shows.outcome)
-                (outcome-more (evidence_in user (share_of user (ground_of book))) (evidence_of machine)
-                (λ change logged. subst (Contains machine.log) (owned-change change user logged.0)
-                (logged-shown user _ line whole.worlds.shows (local_of change) logged.1))
-                (λ of durable. subst (IsDurable machine) (sym durable.0)
-                (durable-shown user _ line whole.worlds.shows durable.1))
-                (λ owner class there has. subst (λ o. (evidence_of machine).has_key o class there) (sym has.0)
-                (key-shown user class there has.1))
-                (λ owner known is. subst (λ o. (evidence_of machine).recorded o known) (sym is.0)
-                (sym (known-shown user _ line whole.worlds.shows) ∙ is.1))
-                machine.boot began reply shows.may));
-            goes = inl (user-stays machine.phase user began.command reply stands.of_user);
+                (outcome-told book whole (user_of task) machine.boot began reply shows.may));
+            goes = inl (user-stays machine.phase (user_of task) began.command reply stands.of_user);
           }
       by (Recovers recovery) same stands shows =
           let durable = durable-down stands.1.0 in record {
@@ -136,7 +113,7 @@ module _ (book : Plain) (actor : Actor) (it : Running) (now : Task) (reply : Rep
               settled = shows.settled;
               placed = shows.placed;
               lists = ap lists_with
-                  (recovers-it (ground_of book) began it.task now plans.job recovery plans.worked same);
+                  (recovers-it (ground_of book) began it.task now plans.jobs recovery plans.worked same);
               alone = nobody-else stands.1.0;
             });
           }
@@ -282,7 +259,8 @@ module _ (book : Plain) (actor : Actor) (it : Running) (now : Task) (reply : Rep
       ends.may in
       let phase : machine'.phase ≡ phase_after book.tracker.phase began.command reply =
       phase-is ∙ ap (λ p. phase_after p began.command reply) whole.agrees.phase in
-      whole-of after machine' (machine_after-append book.ledger.entries entry)
+      whole-of after machine' (tried_in book) (machine_after-append book.ledger.entries entry)
+      (tried-with book.seed book.ledger.entries (Some entry))
       (legal-append book.ledger.entries entry whole.legal may) steady (record {
         agrees = record {
           phase = phase;

@@ -1,12 +1,14 @@
 -- The key ring stands beside the machine after each turn: an entry without a key leaves it, a key that comes in was
 -- given to its user, and no key is a user's who isn't there yet.
-use Rattle.std.proofs.Common.{◌≡◌, ◌≢◌, ℕ, inl, inr, true, false, List, [], ◌∷◌, ◌++◌, refl, sym, ap, ◌∙◌, subst}
+use Rattle.std.proofs.Common.{◌≡◌, ℕ, inl, inr, true, false, List, [], ◌∷◌, ◌++◌, refl, sym, ap, ◌∙◌, subst}
 use Rattle.std.proofs.lemmas.Option.{none-some, same_Some}
 use Rattle.std.specs.Prelude.{Bool, Option, Some, None, is_some, Ok}
 use Rattle.std.specs.Cmp.{nat_cmp_total}
 use Rattle.std.specs.FinMap as map
 use Rattle.std.specs.FinMap.{nat_cmp-IsAntisymmetric}
 use Rattle.tree_model.specs.declared.places.Class.{Class}
+use Rattle.tree_model.specs.declared.places.Class.TheVariants.{De as DeClass, Ce as CeClass}
+use Rattle.tree_model.specs.declared.places.Slot.{Slot}
 use Rattle.tree_model.specs.declared.places.Slot.TheVariants.{Current, Cx}
 use Rattle.tree_model.specs.declared.sites.Site.{Site}
 use Rattle.tree_model.specs.declared.sites.Site.TheVariants.{De, Ce, Temp}
@@ -16,7 +18,7 @@ use Rattle.tree_model.specs.declared.sites.LocalOp.TheVariants.{RenameDir, Remov
 use Rattle.tree_model.specs.Parts.{Part, has_device, renaming_local, local_kind, LocalFits}
 use Rattle.tree_model.specs.Tree.{Kind, Create as Creates, Add as Adds, Drop as Drops, Settle as Settles, kind_if}
 use Rattle.tree_model.specs.Tree.{Destroy as Destroys}
-use Rattle.tree_model.proofs.Maps.{get-insert_other}
+use Rattle.tree_model.proofs.Maps.{decide_key, get-insert_same, get-insert_other}
 use Rattle.tree_model.proofs.Logic.{is_none}
 use Rattle.key_ring.specs.Ring.{Ring, IsRing, owners, key_of, installed, removed, with_owner, without_owner}
 use Rattle.key_ring.proofs.Rings.{found-added, others-added, gone-removed, others-removed}
@@ -26,17 +28,24 @@ use Rattle.journal_model.specs.declared.commands.Actor.{Actor}
 use Rattle.journal_model.specs.declared.entries.Entry.{Entry}
 use Rattle.journal_model.specs.declared.entries.Entry.TheVariants.{Changed, Synced, Installed, Evicted}
 use Rattle.journal_model.specs.Machine.{Machine, after_entry, machine_after}
-use Rattle.journal_model.specs.Users.{no_users, fold_changes}
+use Rattle.journal_model.specs.declared.entries.Birth.{Birth}
+use Rattle.journal_model.specs.declared.entries.Change.{Change}
+use Rattle.journal_model.specs.declared.entries.Change.TheVariants.{Create, Add}
+use Rattle.journal_model.specs.Made.{key_of as made_key}
+use Rattle.journal_model.specs.Users.{Record, Users, no_users, with_slot, added as with_further, after_change}
+use Rattle.journal_model.specs.Users.{fold_changes}
 use Rattle.journal_model.proofs.Folds.{folded-append}
 use Rattle.journal_model.proofs.Steps.{machine_after-append}
 use Rattle.user_world.specs.declared.changes.LocalChange.{LocalChange}
-use Rattle.user_world.specs.declared.changes.LocalChange.TheVariants.{Born}
-use Rattle.user_world.specs.Changes.{change_of}
+use Rattle.user_world.specs.declared.changes.LocalChange.TheVariants.{Born, Added}
 use Rattle.user_world.specs.OwnWorlds.{own_view}
 use Rattle.user_world.specs.Timelines.{Timeline, own_of}
 use Rattle.user_world.specs.Turns.{StepShows}
 use Rattle.user_world.proofs.Timelines.{view-shown, known-shown}
-use Rattle.key_directory.specs.Vaults.{sealed}
+use Rattle.key_directory.specs.Tried.{attempts_of}
+use Rattle.key_directory.specs.Vaults.{Vault, Attempts, Extends, SureOf, sealed}
+use Rattle.key_directory.proofs.Lasting.{fewer-match}
+use Rattle.key_directory.proofs.Tried.{tried as tried-law}
 use Rattle.key_directory.proofs.Present.{there-user}
 use Rattle.task_turns.specs.declared.calls.Answer.{Answer}
 use Rattle.task_turns.specs.declared.calls.Call.{Call}
@@ -56,42 +65,67 @@ use Rattle.vold_book.specs.declared.tasks.Task.TheVariants.{User as Using, Recov
 use Rattle.vold_book.specs.Entries.{entry_of, machine_with}
 use Rattle.vold_book.specs.Installed.{IsMadeKey, RingStands}
 use Rattle.vold_book.specs.Recovery.{RecoveryCalls}
-use Rattle.vold_book.specs.State.{Plain, machine_of, timeline, ground_of, vault_of, share_of}
+use Rattle.vold_book.specs.State.{Plain, machine_of, tried_in, timeline, ground_of, vault_of, share_of}
 use Rattle.vold_book.specs.Tasks.{Plans, TaskShows, scene_of}
 use Rattle.vold_book.specs.Turns.{Making}
 use Rattle.vold_book.specs.Whole.{Whole}
-use Rattle.vold_book.proofs.Moves.{after_of, machine_then}
+use Rattle.vold_book.proofs.Moves.{after_of, machine_then, tried_then, tried-more}
 
 -- a machine with the same ring and the same changes
-pub ring-same : (seed : List ℕ) (keys : Ring) (machine machine' : Machine) → machine'.ring ≡ machine.ring
-    → machine'.log ≡ machine.log → RingStands seed keys machine → RingStands seed keys machine'
-ring-same seed keys machine machine' ring log stands = record {
+pub ring-same : (tried : ℕ → Attempts) (seed : List ℕ) (keys : Ring) (machine machine' : Machine)
+    → machine'.ring ≡ machine.ring → machine'.log ≡ machine.log → RingStands tried seed keys machine
+    → RingStands tried seed keys machine'
+ring-same tried seed keys machine machine' ring log stands = record {
   once = stands.once;
   owned = ring ∙ stands.owned;
-  made = λ user class key at. subst (λ l. IsMadeKey seed (fold_changes l) user class key) (sym log)
+  made = λ user class key at. subst (λ l. IsMadeKey (tried user) seed (fold_changes l) user class key) (sym log)
       (stands.made user class key at);
 }
 
+-- where more was tried, the ring stands that stood
+pub ring-more : (tried tried' : ℕ → Attempts) (seed : List ℕ) (keys : Ring) (machine : Machine)
+    → ((user : ℕ) → Extends (tried user) (tried' user)) → RingStands tried seed keys machine
+    → RingStands tried' seed keys machine
+ring-more tried tried' seed keys machine more stands = record {
+  once = stands.once;
+  owned = stands.owned;
+  made = λ user class key at. let old = stands.made user class key at in record {
+    known = old.known;
+    there = old.there;
+    made = λ sure. old.made (sure-less class (tried user) (tried' user) (more user) sure);
+  };
+}
+  where
+    sure-less : (class : Class) (less more : Attempts) → Extends less more → SureOf more class → SureOf less class
+    sure-less DeClass less more extends sure = tt
+    sure-less CeClass less more extends sure = fewer-match less more extends sure
+
 -- a machine with nothing in the ring
-pub ring-empty : (seed : List ℕ) (machine : Machine) → machine.ring ≡ [] → RingStands seed [] machine
-ring-empty seed machine none =
+pub ring-empty : (tried : ℕ → Attempts) (seed : List ℕ) (machine : Machine) → machine.ring ≡ []
+    → RingStands tried seed [] machine
+ring-empty tried seed machine none =
     record { once = tt; owned = none; made = λ user class key at. absurd (none-some key at) }
 
 -- an entry that leaves ring and changes, and one that empties the ring
 module _ (book : Plain) (entry : Entry) where
   pub ring-entered : (after_entry book.ledger.entries (machine_of book) entry).ring ≡ (machine_of book).ring
       → (after_entry book.ledger.entries (machine_of book) entry).log ≡ (machine_of book).log
-      → RingStands book.seed book.bench.keys (machine_of book)
-      → RingStands book.seed book.bench.keys (machine_after (book.ledger.entries ++ entry ∷ []))
+      → RingStands (tried_in book) book.seed book.bench.keys (machine_of book)
+      → RingStands (attempts_of book.seed (book.ledger.entries ++ entry ∷ [])) book.seed book.bench.keys
+      (machine_after (book.ledger.entries ++ entry ∷ []))
   ring-entered ring log stands =
-      subst (RingStands book.seed book.bench.keys) (sym (machine_after-append book.ledger.entries entry))
-      (ring-same book.seed book.bench.keys (machine_of book) _ ring log stands)
+      subst (RingStands (attempts_of book.seed (book.ledger.entries ++ entry ∷ [])) book.seed book.bench.keys)
+      (sym (machine_after-append book.ledger.entries entry))
+      (ring-more (tried_in book) _ book.seed book.bench.keys _
+      (λ user. tried-law.extends book.seed user book.ledger.entries (entry ∷ []))
+      (ring-same (tried_in book) book.seed book.bench.keys (machine_of book) _ ring log stands))
 
   pub ring-emptied : (after_entry book.ledger.entries (machine_of book) entry).ring ≡ []
-      → RingStands book.seed [] (machine_after (book.ledger.entries ++ entry ∷ []))
+      → RingStands (attempts_of book.seed (book.ledger.entries ++ entry ∷ [])) book.seed []
+      (machine_after (book.ledger.entries ++ entry ∷ []))
   ring-emptied none =
-      subst (RingStands book.seed []) (sym (machine_after-append book.ledger.entries entry))
-      (ring-empty book.seed _ none)
+      subst (RingStands (attempts_of book.seed (book.ledger.entries ++ entry ∷ [])) book.seed [])
+      (sym (machine_after-append book.ledger.entries entry)) (ring-empty _ book.seed _ none)
 
 -- an operation that makes a user finds no device key's directory
 not-create : (there : Bool) (kind : Kind) → (kind ≡ Creates → ⊥) → kind_if there kind ≡ Some Creates → ⊥
@@ -138,6 +172,42 @@ makes-unborn part (RenameDir from to) fits is = renames-unborn part from to fits
 makes-unborn part (RemoveFile site file) fits is = absurd fits
 makes-unborn part (RemoveDir site) fits is = absurd (removes-none part site is)
 
+-- the user is there, with this birth
+record HasBirth (users : Users) (user : ℕ) (birth : Birth) : Type 0 where
+  known : Record
+  there : map.get users user ≡ Some known
+  same : known.birth ≡ birth
+
+-- a new user leaves those who are there, and a further slot the births of all
+born-others : (users : Users) (user : ℕ) (birth : Birth) → map.get users user ≡ None → (other : ℕ) (known : Record)
+    → map.get users other ≡ Some known → HasBirth (after_change users (Create user birth)) other known.birth
+born-others users user birth none other known there = record {
+  known = known;
+  there = get-insert_other nat_cmp_total nat_cmp-IsAntisymmetric users user _ other
+      (λ is. none-some known (sym none ∙ ap (map.get users) (sym is) ∙ there)) ∙ there;
+  same = refl;
+}
+
+added-all : (users : Users) (user : ℕ) (slot : Slot) (secret : List ℕ) (other : ℕ) (known : Record)
+    → map.get users other ≡ Some known → HasBirth (after_change users (Add user slot secret)) other known.birth
+added-all users user slot secret other known there = by (map.get users user) refl
+  where
+    by : (found : Option Record) → map.get users user ≡ found
+        → HasBirth (with_further users user slot secret found) other known.birth
+    by None none = record { known = known; there = there; same = refl }
+    by (Some mine) is = elim (decide_key nat_cmp_total nat_cmp-IsAntisymmetric other user) [
+      | inl same ↦ record {
+        known = with_slot mine slot secret;
+        there = ap (map.get _) same ∙ get-insert_same nat_cmp_total nat_cmp-IsAntisymmetric users user _;
+        same = ap (λ k. k.birth) (same_Some mine known (sym is ∙ ap (map.get users) (sym same) ∙ there));
+      }
+      | inr differ ↦ record {
+        known = known;
+        there = get-insert_other nat_cmp_total nat_cmp-IsAntisymmetric users user _ other differ ∙ there;
+        same = refl;
+      }
+    ]
+
 module _ (book : Plain) (whole : Whole book) (number : ℕ) (bench : Seen) where
   abbrev machine : Machine
   machine = machine_of book
@@ -147,49 +217,50 @@ module _ (book : Plain) (whole : Whole book) (number : ℕ) (bench : Seen) where
 
   -- the ring beside the machine after this entry, or none
   abbrev RingThen : Option Entry → Type 0
-  RingThen entry = RingStands book.seed bench.keys (machine_with book.ledger.entries machine entry)
+  RingThen entry = RingStands (tried_in book) book.seed bench.keys (machine_with book.ledger.entries machine entry)
 
   ring-stays : bench.keys ≡ book.bench.keys → RingThen None
-  ring-stays same = subst (λ keys. RingStands book.seed keys machine) (sym same) whole.ring
+  ring-stays same = subst (λ keys. RingStands (tried_in book) book.seed keys machine) (sym same) whole.ring
 
   ring-synced : bench.keys ≡ book.bench.keys → RingThen (Some Synced)
-  ring-synced same = ring-same book.seed bench.keys machine _ refl refl (ring-stays same)
+  ring-synced same = ring-same (tried_in book) book.seed bench.keys machine _ refl refl (ring-stays same)
 
   -- a user who comes isn't there before
-  unborn : (user : ℕ) (op : LocalOp) (change : LocalChange)
-      → StepShows (sealed (vault_of book.seed book.bench.store)) user (own_of user line)
-      (record { op = op; note = Some change }) []
+  unborn : (user : ℕ) (op : LocalOp) (birth : Birth) (vault : Vault)
+      → StepShows (sealed vault) user (own_of user line) (record { op = op; note = Some (Born birth) }) []
       → map.get (fold_changes machine.log) user ≡ None
-  unborn user op (Born birth) step =
+  unborn user op birth vault step =
       is_none (map.get (fold_changes machine.log) user)
-      (sym (there-user (vault_of book.seed book.bench.store) line user whole.worlds)
+      (sym (there-user (vault_of (tried_in book) book.seed book.bench.store) line user whole.worlds)
       ∙ ap (λ part. is_some (part De)) (sym (view-shown user _ line whole.worlds.shows))
       ∙ makes-unborn (own_view (own_of user line)) op step.fits step.noted)
 
-  -- and so has no key in the ring
-  ring-changed : (user : ℕ) (change : LocalChange) → map.get (fold_changes machine.log) user ≡ None
-      → bench.keys ≡ book.bench.keys → RingThen (Some (Changed number (change_of user change)))
-  ring-changed user (Born birth) none same = record {
+  -- where each user who has a key has the birth that was, the ring stands after a change
+  ring-changed : (change : Change)
+      → ((user : ℕ) (known : Record) → map.get (fold_changes machine.log) user ≡ Some known
+      → HasBirth (after_change (fold_changes machine.log) change) user known.birth)
+      → bench.keys ≡ book.bench.keys → RingThen (Some (Changed number change))
+  ring-changed change stays same = record {
     once = subst IsRing (sym same) whole.ring.once;
     owned = whole.ring.owned ∙ ap owners (sym same);
-    made = λ other class key at.
-        let old = whole.ring.made other class key (ap (λ keys. key_of keys other class) (sym same) ∙ at) in
-        let differ : other ≢ user = λ is. none-some old.known
-        (sym none ∙ ap (map.get (fold_changes machine.log)) (sym is) ∙ old.there) in record {
-          known = old.known;
-          there = ap (λ users. map.get users other) (folded-append no_users machine.log (change_of user (Born birth)))
-              ∙ get-insert_other nat_cmp_total nat_cmp-IsAntisymmetric (fold_changes machine.log) user _ other differ
-              ∙ old.there;
-          made = old.made;
+    made = λ user class key at.
+        let old = whole.ring.made user class key (ap (λ keys. key_of keys user class) (sym same) ∙ at) in
+        let now = stays user old.known old.there in record {
+          known = now.known;
+          there = ap (λ users. map.get users user) (folded-append no_users machine.log change) ∙ now.there;
+          made = λ sure. old.made sure ∙ ap (made_key book.seed class user) (sym now.same);
         };
   }
 
-  ring-noted : (user : ℕ) (op : LocalOp) (change : Option LocalChange)
-      → StepShows (sealed (vault_of book.seed book.bench.store)) user (own_of user line)
-      (record { op = op; note = change }) []
+  ring-noted : (user : ℕ) (op : LocalOp) (change : Option LocalChange) (vault : Vault)
+      → StepShows (sealed vault) user (own_of user line) (record { op = op; note = change }) []
       → bench.keys ≡ book.bench.keys → RingThen (entry_of number (Op user op None) change)
-  ring-noted user op None step same = ring-stays same
-  ring-noted user op (Some change) step same = ring-changed user change (unborn user op change step) same
+  ring-noted user op None vault step same = ring-stays same
+  ring-noted user op (Some (Born birth)) vault step same =
+      ring-changed (Create user birth) (born-others (fold_changes machine.log) user birth
+      (unborn user op birth vault step)) same
+  ring-noted user op (Some (Added slot secret)) vault step same =
+      ring-changed (Add user slot secret) (added-all (fold_changes machine.log) user slot secret) same
 
   -- a key comes in
   ring-added : (user : ℕ) (class : Class) (key : List ℕ) → IsGiven (share_of user (ground_of book)) user class key
@@ -205,11 +276,11 @@ module _ (book : Plain) (whole : Whole book) (number : ℕ) (bench : Seen) where
           | inl same ↦
               let is : key ≡ found = same_Some key found (sym (found-added user class key book.bench.keys)
               ∙ ap (λ owner. key_of (installed book.bench.keys user class key) owner.0 owner.1) (sym same) ∙ now) in
-              subst (λ owner. IsMadeKey book.seed (fold_changes machine.log) owner.0 owner.1 found) (sym same)
-              (record {
+              subst (λ owner. IsMadeKey (tried_in book owner.0) book.seed (fold_changes machine.log) owner.0 owner.1
+              found) (sym same) (record {
                 known = given.known;
                 there = sym (known-shown user _ line whole.worlds.shows) ∙ given.there;
-                made = sym is ∙ given.given;
+                made = λ sure. sym is ∙ given.given sure;
               })
           | inr differ ↦ whole.ring.made other kind found
               (sym (others-added user class key book.bench.keys (other, kind) differ) ∙ now)
@@ -241,7 +312,7 @@ module _ (book : Plain) (whole : Whole book) (number : ℕ) (bench : Seen) where
       → Does book.bench bench call answer → RingThen (entry_of number call change)
   user-rings task began (Op owner op names) change answer stands does =
       subst (λ u. RingThen (entry_of number (Op u op names) change)) (sym stands.mine)
-      (ring-noted (user_of task) op change stands.step (ap (λ b. b.keys) does.1))
+      (ring-noted (user_of task) op change _ stands.step (ap (λ b. b.keys) does.1))
   user-rings task began Sync change answer stands does = ring-synced (ap (λ b. b.keys) does.1)
   user-rings task began (Generate tag app_id) change answer stands does = ring-stays (ap (λ b. b.keys) does.3)
   user-rings task began (Encrypt blob app_id nonce key) change answer stands does =
@@ -275,10 +346,14 @@ module _ (book : Plain) (actor : Actor) (it : Running) (making : Making) (whole 
     (plans : Plans book actor it making.task (CallNext making.call making.change)) where
   -- any call
   pub ring-called : (made : Made) (bench : Seen) → IsMade book.bench bench making.call (Ok made)
-      → RingStands book.seed bench.keys (machine_then book (after_of book it.number making made bench))
+      → RingStands (tried_then book (after_of book it.number making made bench)) book.seed bench.keys
+      (machine_then book (after_of book it.number making made bench))
   ring-called (Failed device) bench is_made =
       ring-stays book whole it.number bench (failed-keys book.bench bench making.call is_made.1)
-  ring-called (Heard answer) bench is_made = by making.task plans.shows
+  ring-called (Heard answer) bench is_made =
+      let entry = entry_of it.number making.call making.change in
+      ring-more (tried_in book) _ book.seed bench.keys _
+      (tried-more book entry) (by making.task plans.shows)
     where
       by : (task : Task)
           → TaskShows (ground_of book) plans.on.began task (CallNext making.call making.change)

@@ -1,6 +1,7 @@
 -- What the plan of each kind of task says of its turns: only a fault tells of a failure, fewer turns are left, and no
 -- more directories, entries and listed blobs come than were said to.
-use Rattle.std.proofs.Common.{◌≡◌, ◌+◌, ◌<◌, ◌≤◌, ℕ, Bool, true, false, cond, [], ◌++◌, length, length-append}
+use Rattle.std.proofs.Common.{◌≡◌, ◌+◌, ◌<◌, ◌≤◌, ℕ, Bool, true, false, cond, List, [], ◌∷◌, ◌++◌, length}
+use Rattle.std.proofs.Common.{length-append}
 use Rattle.std.proofs.Common.{refl, sym, ap, ◌∙◌, subst, arith}
 use Rattle.std.specs.Prelude.{◌↔◌, option_to_list, Option, Some, None, is_some, Ok}
 use Rattle.std.specs.FinMap as map
@@ -49,6 +50,7 @@ use Rattle.vold_book.specs.Recovery.{max_places, recovery_left, recovery_after, 
 use Rattle.vold_book.specs.Recovery.{RecoveryCalls}
 use Rattle.vold_book.specs.State.{Plain, Ground, ground_of}
 use Rattle.vold_book.specs.Tasks.{TaskStands, TaskShows, TaskAfter, Worked, Plans, lists_with, fault_of}
+use Rattle.vold_book.proofs.Worked.{after-jobs}
 use Rattle.vold_book.specs.Tasks.{scene_of, task_heard}
 use Rattle.vold_book.specs.Turns.{Making, IsFault}
 use Rattle.vold_book.proofs.HeardCalls.{found-own}
@@ -95,24 +97,15 @@ pub record CallFalls (before after : NamedPlaces) (call : Call) (made : Made) (t
 work-none : (places : NamedPlaces) (task : Task) → WorkFalls places task task
 work-none places task = record { turns = omega arith; makes = omega arith; draws = omega arith; lists = omega arith }
 
-pub work-falls : (ground : Ground) (began : Began) (places : NamedPlaces) (task now : Task) (job : Option Job)
-    → Worked ground began task now job → WorkFalls places task now
-work-falls ground began places task now None worked =
-    subst (WorkFalls places task) (sym worked) (work-none places task)
-work-falls ground began places (Using task) now (Some job) worked =
-    let leads = worked.1.leads in
-    let falls = leads.falls in
-    let makes = leads.makes in
-    let draws = leads.draws in
-    subst (WorkFalls places (Using task)) (sym worked.0) (record {
-      turns = omega (arith, falls);
-      makes = omega (arith, makes);
-      draws = omega (arith, draws);
-      lists = omega arith;
-    })
-work-falls ground began places (Recovers recovery) now (Some job) worked = absurd worked
-work-falls ground began places (Refusal reply) now (Some job) worked = absurd worked
-work-falls ground began places (Fault device held) now (Some job) worked = absurd worked
+pub work-falls : (ground : Ground) (began : Began) (places : NamedPlaces) (task now : Task) (jobs : List Job)
+    → Worked ground began task now jobs → WorkFalls places task now
+work-falls ground began places task now jobs = after-jobs ground began (WorkFalls places) (work-none places)
+    (λ task job now shows later. record {
+      turns = omega (arith, shows.leads.falls, later.turns);
+      makes = omega (arith, shows.leads.makes, later.makes);
+      draws = omega (arith, shows.leads.draws, later.draws);
+      lists = later.lists;
+    }) jobs task now
 
 -- what is left of a user's task after a call that was done
 record UserFalls (task then : UserTask) (cost : Cost) : Type 0 where
@@ -371,7 +364,7 @@ module _ (book : Plain) (actor : Actor) (it : Running) (making : Making)
       pub call-falls : Whole book → HearsWhole made
           → CallFalls book.bench.places after.places making.call made it.task making.then
       call-falls book_whole whole =
-          let work = work-falls (ground_of book) planned_began book.bench.places it.task making.task plans.job
+          let work = work-falls (ground_of book) planned_began book.bench.places it.task making.task plans.jobs
           plans.worked in
           let call = task-falls book planned_began making.call making.change after book_whole made making.task
           making.then whole plans.shows is_made then in
@@ -452,26 +445,28 @@ module _ (ground : Ground) (began : Began) (reply : Reply) (device : Device) whe
         (fault-device device failed (sym (next_reply reply (fault_of failed) shows) ∙ is));
   }
 
-  work-told : (task now : Task) (job : Option Job) → Worked ground began task now job
+  -- after a job it is a user's task still
+  still-user : (task now : Task) (jobs : List Job) → Worked ground began task now jobs → (user : UserTask)
+      → task ≡ Using user → (then : UserTask) × (now ≡ Using then)
+  still-user task now jobs = after-jobs ground began
+      (λ task now. (user : UserTask) → task ≡ Using user → (then : UserTask) × (now ≡ Using then))
+      (λ task user is. (user, is)) (λ task job now shows later user is. later _ refl) jobs task now
+
+  work-told : (task now : Task) (jobs : List Job) → Worked ground began task now jobs
       → TaskStands ground task began → TaskShows ground began now (ReplyNext reply)
       → reply ≡ fault_of device → IsFault device task
-  work-told task now None worked stands shows is =
+  work-told task now [] worked stands shows is =
       task-told task stands (subst (λ t. TaskShows ground began t (ReplyNext reply)) worked shows) is
-  work-told (Using task) now (Some job) worked stands shows is =
-      absurd (outcome_fault (sym (success now worked.0 shows) ∙ ap kind_of_reply is ∙ fault-kind device))
+  work-told (Using task) now (job ∷ jobs) worked stands shows is =
+      let then = still-user (Using task) now (job ∷ jobs) worked task refl in
+      let told = subst (λ t. TaskShows ground began t (ReplyNext reply)) then.1 shows in
+      absurd (outcome_fault (sym told.outcome ∙ ap kind_of_reply is ∙ fault-kind device))
     where
-      success : (now : Task) → {then : UserTask} → now ≡ Using then → TaskShows ground began now (ReplyNext reply)
-          → kind_of_reply reply ≡ Outcome
-      success (Using then) is shows = shows.outcome
-      success (Recovers recovery) is shows = cc
-      success (Refusal refusal) is shows = cc
-      success (Fault failed held) is shows = cc
-
       outcome_fault : Outcome ≡ FaultKind → ⊥
       outcome_fault e = cc
-  work-told (Recovers recovery) now (Some job) worked stands shows is = absurd worked
-  work-told (Refusal refusal) now (Some job) worked stands shows is = absurd worked
-  work-told (Fault failed held) now (Some job) worked stands shows is = absurd worked
+  work-told (Recovers recovery) now (job ∷ jobs) worked stands shows is = absurd worked
+  work-told (Refusal refusal) now (job ∷ jobs) worked stands shows is = absurd worked
+  work-told (Fault failed held) now (job ∷ jobs) worked stands shows is = absurd worked
 
 task-lasts : (ground : Ground) (began : Began) (reply : Reply) (places : NamedPlaces) (task : Task)
     → TaskShows ground began task (ReplyNext reply) → 0 < turns_of_task places task
@@ -509,13 +504,13 @@ module _ (book : Plain) (actor : Actor) (it : Running) (now : Task) (reply : Rep
     (plans : Plans book actor it now (ReplyNext reply)) where
   pub reply-told : (device : Device) → reply ≡ fault_of device → IsFault device it.task
   reply-told device is =
-      work-told (ground_of book) plans.on.began reply device it.task now plans.job plans.worked plans.on.stands
+      work-told (ground_of book) plans.on.began reply device it.task now plans.jobs plans.worked plans.on.stands
       plans.shows is
 
   -- and a task that replies had a turn left
   pub reply-lasts : 0 < turns_of_task book.bench.places it.task
   reply-lasts =
-      let work = work-falls (ground_of book) plans.on.began book.bench.places it.task now plans.job plans.worked in
+      let work = work-falls (ground_of book) plans.on.began book.bench.places it.task now plans.jobs plans.worked in
       let turns = work.turns in
       let lasts = task-lasts (ground_of book) plans.on.began reply book.bench.places now plans.shows in
       omega (arith, turns, lasts)

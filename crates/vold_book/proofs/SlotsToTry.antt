@@ -31,10 +31,10 @@ use Rattle.tree_model.proofs.Maps.{tied}
 use Rattle.journal_model.specs.declared.commands.Actor.{Actor}
 use Rattle.journal_model.specs.declared.commands.Actor.TheVariants.{User}
 use Rattle.journal_model.specs.declared.commands.Command.{Command}
-use Rattle.journal_model.specs.declared.commands.Command.TheVariants.{Create, Unlock, Lock, Recover}
+use Rattle.journal_model.specs.declared.commands.Command.TheVariants.{Unlock, Protect}
 use Rattle.journal_model.specs.declared.phase.Phase.{Phase}
 use Rattle.journal_model.specs.declared.phase.Phase.TheVariants.{Up, Down, Halted}
-use Rattle.journal_model.specs.Command.{actor_of, user_in}
+use Rattle.journal_model.specs.Command.{actor_of}
 use Rattle.journal_model.specs.Machine.{TakesTurn}
 use Rattle.journal_model.specs.Users.{Record}
 use Rattle.user_world.specs.OwnWorlds.{own_view, own_record}
@@ -48,7 +48,6 @@ use Rattle.key_directory.proofs.Fitting.{fitting}
 use Rattle.key_directory.proofs.Opened.{slots-tell}
 use Rattle.step_core.specs.Table.{NamedPlaces, named_by}
 use Rattle.task_turns.specs.Shares.{Share, IsSound, AreNewestFirst, MayOpen, AreLeftToTry}
-use Rattle.user_tasks.specs.Tasks.{AreToTry}
 use Rattle.bench.specs.Bench.{named_in}
 use Rattle.bench.specs.Known.{Knows}
 use Rattle.vold_book.specs.Recovery.{max_places}
@@ -253,12 +252,12 @@ module _ (places : NamedPlaces) (tree : Tree) (knows : Knows places tree) (user 
   present = ap (λ p. is_some (p DeSite)) shown ∙ sym (knows.there (De user)) ∙ there
 
   -- the user's record, for which the view stands
-  known : (known : Record) × SealedStands share.vault user (standing (own_view share.own)) known
+  pub known : (known : Record) × SealedStands share.vault user (standing (own_view share.own)) known
   known = known-there share.vault user (own_view share.own) (own_record share.own)
       (view-stands (sealed share.vault) user share.own sound.images) present
 
   module _ (slot : Slot) (files : Files) (at : own_view share.own (CeSite slot) ≡ Some files) where
-    tells : (given : List ℕ) → SlotTells share.vault user known.0 files given
+    tells : (given : List ℕ) → SlotTells share.vault user known.0 slot files given
     tells given = slots-tell share.vault user (own_view share.own) known.0 slot files given known.1 at
 
     long : (blob : Blob) → named_at (Some files) ≡ Some blob → length blob ≡ 32
@@ -316,7 +315,6 @@ pub sound-share : (book : Plain) → Whole book → (user : ℕ) → IsSound use
 sound-share book whole user = record {
   images = whole.worlds.images user;
   current = whole.current;
-  bare = λ added among. Contains-none added among;
 }
 
 module _ (book : Plain) (actor : Actor) (whole : Whole book) (takes : TakesTurn book.tracker.phase actor) where
@@ -334,11 +332,11 @@ module _ (book : Plain) (actor : Actor) (whole : Whole book) (takes : TakesTurn 
       let bound = (small-bounds book whole.small whole.numbers.few).places in
       omega (arith, few, all, same, bound)
 
-  to-try : (user : ℕ) (secret : List ℕ) → actor ≡ User user
+  pub slots-to-try : (user : ℕ) (secret : List ℕ) → actor ≡ User user
       → user_there book.bench.places (Some user) ≡ true
       → AreLeftToTry (share_of user (ground_of book)) secret
       (slots_in book.bench.places user secret (map.keys book.bench.places))
-  to-try user secret is there =
+  slots-to-try user secret is there =
       left-to-try book.bench.places (view book.bench.disk) (known-up user is) user secret
       (share_of user (ground_of book)) (sound-share book whole user)
       (view-shown user _ (ground_of book).line whole.worlds.shows) there
@@ -346,20 +344,7 @@ module _ (book : Plain) (actor : Actor) (whole : Whole book) (takes : TakesTurn 
 pub few-slots : (book : Plain) (actor : Actor) (command : Command) → Whole book
     → TakesTurn book.tracker.phase actor → actor_of command ≡ actor
     → length (slots_for book.bench.places command) ≤ max_places
-few-slots book actor (Create user) whole takes own = omega arith
 few-slots book actor (Unlock user secret) whole takes own = few-unlocked book actor whole takes user secret (sym own)
-few-slots book actor (Lock user) whole takes own = omega arith
-few-slots book actor Recover whole takes own = omega arith
-
-pub slots-to-try : (book : Plain) (actor : Actor) (command : Command) → Whole book
-    → TakesTurn book.tracker.phase actor → actor_of command ≡ actor
-    → (user : ℕ) → user_in command ≡ Some user → user_there book.bench.places (Some user) ≡ true
-    → AreToTry command (slots_for book.bench.places command) (share_of user (ground_of book))
-slots-to-try book actor (Create other) whole takes own user is there = tt
-slots-to-try book actor (Unlock other secret) whole takes own user is there =
-    subst (λ u. user_there book.bench.places (Some u) ≡ true
-    → AreLeftToTry (share_of u (ground_of book)) secret
-    (slots_in book.bench.places other secret (map.keys book.bench.places)))
-    (same_Some other user is) (to-try book actor whole takes other secret (sym own)) there
-slots-to-try book actor (Lock other) whole takes own user is there = tt
-slots-to-try book actor Recover whole takes own user is there = tt
+few-slots book actor (Protect user given fresh) whole takes own =
+    few-unlocked book actor whole takes user given (sym own)
+few-slots book actor command whole takes own = omega arith

@@ -47,33 +47,35 @@ no_note (Some change) e = cc
 module _ (meaning : Meaning) (user : ℕ) (line : Timeline) (change : Option LocalChange)
     (stands : OwnWorldsStand meaning line) where
   -- the device's conditions hold of the view
-  pub step-fits : (op : LocalOp)
-      → StepShows meaning user (own_of user line) (record { op = op; note = change }) []
+  pub step-fits : {shown : Meaning} (op : LocalOp)
+      → StepShows shown user (own_of user line) (record { op = op; note = change }) []
       → LocalFits (part_of (view line.disk) user) op
   step-fits op shows = subst (λ part. LocalFits part op) (view-shown user _ line stands.shows) shows.fits
 
   -- whether it makes a change is told rightly
-  pub step-told : (op : LocalOp)
-      → StepShows meaning user (own_of user line) (record { op = op; note = change }) []
+  pub step-told : {shown : Meaning} (op : LocalOp)
+      → StepShows shown user (own_of user line) (record { op = op; note = change }) []
       → is_some change ≡ is_some (kind_of (view line.disk) (op_of user op))
   step-told op shows =
       sym (ap is_some (kind-own (view line.disk) user op
       ∙ ap (λ part. local_kind part op) (sym (view-shown user _ line stands.shows)) ∙ shows.noted) ∙ is_noted change)
 
-  -- and where it failed
-  pub step-failed : (op : LocalOp) (disk : Disk)
-      → StepShows meaning user (own_of user line) (record { op = op; note = change }) []
+  -- and where it failed, whatever its change would have meant
+  pub step-failed : {shown : Meaning} (op : LocalOp) (disk : Disk)
+      → StepShows shown user (own_of user line) (record { op = op; note = change }) []
+      → (change ≡ None → StepShows meaning user (own_of user line) (record { op = op; note = change }) [])
       → LeavesDisk line.disk disk user op → Keeps meaning user line (record line { disk = disk })
-  step-failed (MakeDir site) disk shows failed = same-line meaning user line disk stands failed
-  step-failed (Write site file bytes) disk shows failed =
+  step-failed (MakeDir site) disk shows quiet failed = same-line meaning user line disk stands failed
+  step-failed (Write site file bytes) disk shows quiet failed =
+      let none = no_note change shows.noted in
       let leads = line-failed meaning line user (record { op = Write site file bytes; note = change }) []
-      (Bytes failed.0) stands shows (no_note change shows.noted) in
+      (Bytes failed.0) stands (quiet none) none in
       subst (λ d. Keeps meaning user line (record line { disk = d })) (sym failed.1)
       (record { stands = leads.stands; others = leads.others })
-  step-failed (RenameFile site from to) disk shows failed = same-line meaning user line disk stands failed
-  step-failed (RenameDir from to) disk shows failed = same-line meaning user line disk stands failed
-  step-failed (RemoveFile site file) disk shows failed = same-line meaning user line disk stands failed
-  step-failed (RemoveDir site) disk shows failed = same-line meaning user line disk stands failed
+  step-failed (RenameFile site from to) disk shows quiet failed = same-line meaning user line disk stands failed
+  step-failed (RenameDir from to) disk shows quiet failed = same-line meaning user line disk stands failed
+  step-failed (RemoveFile site file) disk shows quiet failed = same-line meaning user line disk stands failed
+  step-failed (RemoveDir site) disk shows quiet failed = same-line meaning user line disk stands failed
 
 -- what a failed operation leaves of the disk
 pub failed-disk : (before after : Seen) (user : ℕ) (op : LocalOp) → IsFailedOp before after user op

@@ -34,16 +34,17 @@ use Rattle.user_world.specs.Meaning.{StandsFor, UserStands}
 use Rattle.user_world.specs.Timelines.{survivors}
 use Rattle.user_world.proofs.Timelines.{line-stopped, line-still}
 use Rattle.keystore_model.specs.Store.{empty_store}
+use Rattle.key_directory.specs.Tried.{attempts_of}
 use Rattle.key_directory.specs.Vaults.{sealed}
 use Rattle.user_world.specs.Meaning.{Meaning}
 use Rattle.bench.specs.Bench.{Plain as Seen, named_in}
 use Rattle.vold_book.specs.declared.tasks.Running.{Running}
-use Rattle.vold_book.specs.State.{Docket, Plain, machine_of, timeline, vault_of}
+use Rattle.vold_book.specs.State.{Docket, Plain, machine_of, tried_in, timeline, vault_of}
 use Rattle.vold_book.specs.Stops.{after_stop, after_restart}
 use Rattle.vold_book.specs.Turns.{new_book, opened_at, with_command, unlisted}
 use Rattle.vold_book.specs.Recovery.{max_commands}
 use Rattle.vold_book.specs.Whole.{Numbers, PhaseStands, Whole}
-use Rattle.vold_book.proofs.Moves.{Steady, whole-of}
+use Rattle.vold_book.proofs.Moves.{Steady, whole-of, tried-with}
 use Rattle.vold_book.proofs.Numbers.{quiet-stopped, numbers-quiet, numbers-running}
 use Rattle.vold_book.proofs.Numbers.{begun-quiet, all_given-append, all_given-push}
 
@@ -76,7 +77,8 @@ module _ (book : Plain) (whole : Whole book) where
 
     pub whole-stopped : Steady halted → Whole halted
     whole-stopped steady =
-        whole-of halted machine' (machine_after-append book.ledger.entries (Stopped survived))
+        whole-of halted machine' (tried_in book) (machine_after-append book.ledger.entries (Stopped survived))
+        (tried-with book.seed book.ledger.entries (Some (Stopped survived)))
         (legal-append book.ledger.entries (Stopped survived) whole.legal
         (subst (λ p. p ≢ Halted) (sym whole.agrees.phase) running, omega arith, within)) steady (record {
           agrees = record {
@@ -87,7 +89,8 @@ module _ (book : Plain) (whole : Whole book) where
             pending = refl;
           };
           worlds =
-              line-stopped (sealed (vault_of book.seed book.bench.store)) (timeline book.bench.disk machine)
+              line-stopped (sealed (vault_of (tried_in book) book.seed book.bench.store))
+              (timeline book.bench.disk machine)
               cut.keep cut.fills whole.worlds;
           numbers = numbers-running book.docket (book.ledger.entries ++ Stopped survived ∷ []) machine' map.empty
               (numbers-quiet book.docket book.ledger.entries machine (Stopped survived)
@@ -201,8 +204,8 @@ module _ (book : Plain) (whole : Whole book) where
 
     pub whole-restarted : Steady restarted → Whole restarted
     whole-restarted steady =
-        whole-of restarted machine_again (machine_after-append book.ledger.entries entry)
-        (legal-append book.ledger.entries entry whole.legal (
+        whole-of restarted machine_again (tried_in book) (machine_after-append book.ledger.entries entry)
+        (tried-with book.seed book.ledger.entries (Some entry)) (legal-append book.ledger.entries entry whole.legal (
           whole.agrees.phase ∙ halted,
           ap (λ n. n + 1) (sym whole.agrees.boot),
           let was = whole.agrees.level in omega (arith, was, same_level),
@@ -242,7 +245,7 @@ module _ (tree_counts store_counts ring_counts : Counts) (seed : List ℕ) where
       new_book (opened_seen tree_counts store_counts ring_counts) (opened_at tree_counts store_counts ring_counts) seed
 
   abbrev meaning : Meaning
-  meaning = sealed (vault_of seed (empty_store 1))
+  meaning = sealed (vault_of (attempts_of seed []) seed (empty_store 1))
 
   nothing-stands : StandsFor meaning map.empty (fold_changes [])
   nothing-stands = record {
@@ -255,7 +258,7 @@ module _ (tree_counts store_counts ring_counts : Counts) (seed : List ℕ) where
 
   pub whole-opened : Steady opened → Whole opened
   whole-opened steady =
-      whole-of opened first_machine refl tt steady (record {
+      whole-of opened first_machine (tried_in opened) refl refl tt steady (record {
         agrees = record { phase = refl; boot = refl; level = refl; durable = refl; pending = refl };
         worlds = line-still meaning map.empty [] nothing-stands;
         numbers = record {

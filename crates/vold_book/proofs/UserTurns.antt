@@ -27,13 +27,13 @@ use Rattle.journal_model.specs.declared.phase.Phase.{Phase}
 use Rattle.journal_model.specs.declared.phase.Phase.TheVariants.{Up, Down}
 use Rattle.journal_model.specs.Command.{actor_of}
 use Rattle.journal_model.specs.Machine.{Machine, Running as BeganCommand, after_entry}
-use Rattle.journal_model.specs.Machine.{if_running, with_change, AllowsChange, Installs, Evicts}
+use Rattle.journal_model.specs.Machine.{if_running, with_change, evidence_of, AllowsChange, Installs, Evicts}
 use Rattle.user_world.specs.declared.changes.LocalChange.{LocalChange}
 use Rattle.user_world.specs.Changes.{change_of, if_noted}
 use Rattle.user_world.specs.Facts.{Later}
 use Rattle.user_world.specs.OwnWorlds.{Step}
 use Rattle.user_world.specs.Timelines.{Timeline, own_of, line_with, settled_line, OwnWorldsStand, LeadsTo}
-use Rattle.user_world.specs.Turns.{with_note}
+use Rattle.user_world.specs.Turns.{StepShows, with_note}
 use Rattle.user_world.proofs.Timelines.{line-step, line-settled, own-synced, own-operated, view-shown, known-shown}
 use Rattle.user_world.proofs.Timelines.{line-images}
 use Rattle.keystore_model.specs.declared.entry.StoreEntry.{StoreEntry}
@@ -46,13 +46,13 @@ use Rattle.key_directory.proofs.Lasting.{images-later}
 use Rattle.user_world.proofs.Product.{product}
 use Rattle.user_world.specs.Timelines.{world_of}
 use Rattle.keystore_model.proofs.Elements.{Contains-none, Contains-cases}
-use Rattle.key_directory.specs.Vaults.{Vault, sealed, KeepsEntry, Later as VaultLater}
+use Rattle.key_directory.specs.Vaults.{Vault, Attempts, Extends, sealed, KeepsEntry, Later as VaultLater}
 use Rattle.task_turns.specs.declared.calls.Answer.{Answer}
 use Rattle.task_turns.specs.declared.calls.Call.{Call}
 use Rattle.task_turns.specs.Shares.{AllHas, AreHeld}
 use Rattle.task_turns.specs.Turns.{seen_of, Rests, AllOwned, Scene, Leads, cost_of, OpShows, SyncShows, GenerateShows}
 use Rattle.task_turns.specs.Turns.{EncryptShows, DecryptShows, ReadShows, AddShows, RemoveShows, no_cost}
-use Rattle.task_turns.specs.Turns.{operated, IsOwned, BlobShows, CallShows}
+use Rattle.task_turns.specs.Turns.{operated, noting, evidence_in, IsOwned, BlobShows, CallShows}
 use Rattle.task_turns.specs.declared.calls.Answer.TheVariants.{Done, Directory, Blob as IsBlob, Sealed, Decrypted}
 use Rattle.task_turns.specs.declared.calls.Call.TheVariants.{Op as OpCall, Sync, Generate, Encrypt, Decrypt}
 use Rattle.task_turns.specs.declared.calls.Call.TheVariants.{List as ListCall, Read, Entries, Add, Remove}
@@ -65,17 +65,25 @@ use Rattle.journal_model.specs.declared.entries.Device.{Device}
 use Rattle.bench.specs.Known.{Knows, IsLasting}
 use Rattle.user_tasks.specs.declared.tasks.UserTask.{UserTask}
 use Rattle.user_tasks.specs.Tasks.{tasks, user_of, rest_of}
+use Rattle.vold_book.specs.declared.recovery.Recovery.{Recovery}
+use Rattle.vold_book.specs.declared.recovery.Recovery.TheVariants.{Listing, Sweeping, Reading, Settled, Listed}
 use Rattle.vold_book.specs.declared.tasks.Held.{Held}
 use Rattle.vold_book.specs.declared.tasks.Running.{Running}
 use Rattle.vold_book.specs.declared.tasks.Task.{Task}
 use Rattle.vold_book.specs.declared.tasks.Task.TheVariants.{User as Using, Recovery as Recovers, Refusal, Fault}
-use Rattle.vold_book.specs.Entries.{changed_entry, entry_of as entry_of_call, machine_with, may_with}
+use Rattle.vold_book.specs.Entries.{changed_entry, entry_of as entry_of_call, machine_with, tried_with, may_with}
 use Rattle.vold_book.specs.Turns.{Making}
 use Rattle.vold_book.specs.Parts.{Agrees, changes_made, noted}
-use Rattle.vold_book.specs.State.{Plain, Ground, machine_of, timeline, ground_at, ground_of, vault_of, share_of}
+use Rattle.vold_book.specs.State.{Plain, Ground, machine_of, tried_in, timeline, ground_at, ground_of, vault_of}
+use Rattle.vold_book.specs.State.{share_of}
+use Rattle.vold_book.specs.Recovery.{RestsAt}
 use Rattle.vold_book.specs.Tasks.{TaskStands, RunsOn, HoldsOwn, blobs_in, scene_of}
 use Rattle.vold_book.specs.Whole.{PhaseStands, Whole}
-use Rattle.vold_book.proofs.Moves.{After, after_of, Moves, machine_then, ground_then, holds-on}
+use Rattle.vold_book.proofs.Moves.{After, after_of, Moves, machine_then, tried_then, ground_then, same-tried}
+use Rattle.vold_book.proofs.Moves.{tried-more}
+use Rattle.vold_book.proofs.Moves.{holds-on}
+use Rattle.vold_book.proofs.Noted.{noting-later, noting-keeps, noting-facts, noted-vault}
+use Rattle.vold_book.proofs.Told.{change-told}
 use Rattle.vold_book.proofs.Numbers.{IsQuiet, quiet-changed, quiet-synced, quiet-installed}
 use Rattle.vold_book.proofs.Numbers.{quiet-evicted}
 use Rattle.vold_book.proofs.StepsMade.{Keeps, same-line, step-fits, step-told, step-failed, failed-disk, all-changes}
@@ -103,6 +111,7 @@ pub record LeavesGround (before after : Ground) (user : ℕ) : Type 0 where
   pub boot : after.boot ≡ before.boot
   pub level : after.vault.level ≡ before.vault.level
   pub seed : after.vault.seed ≡ before.vault.seed
+  pub attempts : (other : ℕ) → Extends (before.vault.attempts other) (after.vault.attempts other)
   pub kept : (blob : Blob) → KeepsEntry before.vault after.vault blob
   pub keys : (other : ℕ) → other ≢ user → key_of after.keys other ≡ key_of before.keys other
   pub others : (other : ℕ) → other ≢ user → Later (own_of other before.line) (own_of other after.line)
@@ -120,6 +129,7 @@ rests-still before after user task began leaves differ rests = record {
     own = leaves.others (user_of task) differ;
     level = leaves.level;
     seed = leaves.seed;
+    attempts = leaves.attempts;
     keys = leaves.keys (user_of task) differ;
     kept = λ blob is. leaves.kept blob;
     named = λ blob names. leaves.kept blob;
@@ -132,8 +142,43 @@ rests-still before after user task began leaves differ rests = record {
   };
 }
 
+-- a recovery rests where it did, whatever was tried
+recovery-more : (on : Ground) (tried : ℕ → Attempts) (recovery : Recovery) → RestsAt on recovery
+    → RestsAt (record on { vault = record on.vault { attempts = tried } }) recovery
+recovery-more on tried Listing rests = rests
+recovery-more on tried Sweeping rests = rests
+recovery-more on tried (Reading count) rests =
+    (record { known = rests.0.known; none = rests.0.none; unlisted = rests.0.unlisted }, rests.1, rests.2)
+recovery-more on tried Settled rests = (record { tidy = rests.0.tidy; still = rests.0.still }, rests.1)
+recovery-more on tried Listed rests = (record { tidy = rests.0.tidy; still = rests.0.still }, rests.1)
+
+-- where more was tried, each task rests that rested
+pub stands-more : (on : Ground) (tried : ℕ → Attempts) → ((user : ℕ) → Extends (on.vault.attempts user) (tried user))
+    → (task : Task) (began : BeganCommand) → TaskStands on task began
+    → TaskStands (record on { vault = record on.vault { attempts = tried } }) task began
+stands-more on tried more (Using task) began rests = record {
+  of_user = rests.of_user;
+  accepted = rests.accepted;
+  serves = rests.serves;
+  facts = facts-last (rest_of task).facts (rest_of task).held _ _ (record {
+    own = inl refl;
+    level = refl;
+    seed = refl;
+    attempts = more;
+    keys = refl;
+    kept = λ blob is entry live. live;
+    named = λ blob names entry live. live;
+  }) rests.known rests.facts;
+  known = rests.known;
+  owned = rests.owned;
+}
+stands-more on tried more (Recovers recovery) began rests =
+    (rests.0, (rests.1.0, recovery-more on tried recovery rests.1.1))
+stands-more on tried more (Refusal reply) began rests = rests
+stands-more on tried more (Fault device held) began rests = rests
+
 -- the worlds of users stand where entries were added
-worlds-later : (before after : Vault) (line : Timeline) → VaultLater before after
+pub worlds-later : (before after : Vault) (line : Timeline) → VaultLater before after
     → ((blob : Blob) → KeepsEntry before after blob) → OwnWorldsStand (sealed before) line
     → OwnWorldsStand (sealed after) line
 worlds-later before after line later kept stands = record {
@@ -164,7 +209,8 @@ at-one blobs blob b is one = elim (Contains-cases blob [] b one) [
   | inr none ↦ absurd (Contains-none b none)
 ]
 
--- what a call leaves that makes no operation: the keystore, the ring, the places, and whose keys the machine has in the
+-- what a call leaves that makes no operation: the keystore, the ring, the places, and whose keys the machine has in
+-- the
 -- ring
 pub record Aside : Type 0 where
   pub store : Store
@@ -232,7 +278,7 @@ module _ (book : Plain) (actor : Actor) (number : ℕ) (task : UserTask) (whole 
   -- what a call leaves that leads the user's task on
   pub record LeadsOn (then : UserTask) (began : BeganCommand) (after : After) : Type 0 where
     pub leaves : LeavesGround (ground_of book) (ground_then book after) user
-    pub worlds : OwnWorldsStand (sealed (vault_of book.seed after.bench.store))
+    pub worlds : OwnWorldsStand (sealed (vault_of (tried_then book after) book.seed after.bench.store))
         (timeline after.bench.disk (machine_then book after))
     pub facts : AllHas (rest_of then).facts (share_of user (ground_then book after))
     pub known : AreHeld (rest_of then).held (rest_of then).facts
@@ -356,18 +402,29 @@ module _ (book : Plain) (actor : Actor) (number : ℕ) (task : UserTask) (whole 
       log = log-noted note i;
     }
 
-    led : LeadsTo (sealed (vault_of book.seed book.bench.store)) user [] line (line_with line user step)
-    led = line-step (sealed (vault_of book.seed book.bench.store)) line user step [] whole.worlds shows.step
+    -- what directories are opened with once the change was noted
+    abbrev then_vault : Vault
+    then_vault = noting user scene note
+
+    then-worlds : OwnWorldsStand (sealed then_vault) line
+    then-worlds = worlds-later (vault_of (tried_in book) book.seed book.bench.store) then_vault line
+        (noting-later user scene note) (noting-keeps user scene note) whole.worlds
+
+    led : LeadsTo (sealed then_vault) user [] line (line_with line user step)
+    led = line-step (sealed then_vault) line user step [] then-worlds shows.step
 
     same_store : bench.store ≡ book.bench.store
     same_store = ap (λ b. b.store) done
 
-    is-share : share_of user (ground_then book after) ≡ operated scene.share op note
+    is-vault : vault_of (tried_then book after) book.seed bench.store ≡ then_vault
+    is-vault = ap (vault_of (tried_then book after) book.seed) same_store
+        ∙ noted-vault book user number on.began on.at (known-shown user _ line whole.worlds.shows) note
+
+    is-share : share_of user (ground_then book after) ≡ record (operated scene.share op note) { vault = then_vault }
     is-share = λ i. record {
       own = (ap (own_of user) is-line
-          ∙ own-operated (sealed (vault_of book.seed book.bench.store)) line user step whole.worlds
-          shows.step.noted) i;
-      vault = vault_of book.seed (same_store i);
+          ∙ own-operated (sealed then_vault) line user step then-worlds shows.step.noted) i;
+      vault = is-vault i;
       keys = key_of (ap (λ b. b.keys) done i) user;
     }
 
@@ -394,13 +451,20 @@ module _ (book : Plain) (actor : Actor) (number : ℕ) (task : UserTask) (whole 
         (λ r. map.insert machine.running number (with_change r (change_of user change)))) on.at)
         ∙ get-insert_other nat_cmp_total nat_cmp-IsAntisymmetric machine.running number _ n differ
 
+    abbrev MayNote : Option LocalChange → Type 0
+    MayNote change = IfSome change (λ local. AllowsChange (evidence_in user scene.share) machine.boot on.began
+        on.began.command (change_of user local))
+
     may-noted : (change : Option LocalChange)
-        → IfSome change (λ local. AllowsChange machine.boot on.began on.began.command (change_of user local))
-        → may_with book.ledger.entries machine (changed_entry number user change)
+        → MayNote change → may_with book.ledger.entries machine (changed_entry number user change)
     may-noted None may = tt
     may-noted (Some change) may = subst (λ found. IsSomeAnd found (λ b.
-        (b.verdict ≡ None) × AllowsChange machine.boot b b.command (change_of user change))) (sym on.at)
-        (on.stands.accepted, may)
+        (b.verdict ≡ None) × AllowsChange (evidence_of machine) machine.boot b b.command (change_of user change)))
+        (sym on.at) (
+          on.stands.accepted,
+          change-told book whole user machine.boot on.began on.began.command
+              (change_of user change) may,
+        )
 
     quiet-noted : (change : Option LocalChange) → IfSome (changed_entry number user change) IsQuiet
     quiet-noted None = tt
@@ -424,22 +488,24 @@ module _ (book : Plain) (actor : Actor) (number : ℕ) (task : UserTask) (whole 
     level-noted None = refl
     level-noted (Some change) = refl
 
-    op-leads : IfSome note (λ local. AllowsChange machine.boot on.began on.began.command (change_of user local))
-        → LeadsOn (heard Done) (with_note user on.began note) after
+    op-leads : MayNote note → LeadsOn (heard Done) (with_note user on.began note) after
     op-leads may = record {
       leaves = record {
         boot = boot-noted note;
         level = ap (λ s. s.level) same_store;
         seed = refl;
+        attempts = tried-more book after.entry;
         kept = λ blob entry live. ap (λ s. entry_of s.entries blob) same_store ∙ live;
         keys = λ other differ. ap (λ b. key_of b.keys other) done;
         others = λ other differ. subst (λ l. Later (own_of other line) (own_of other l)) (sym is-line)
             (led.others other differ);
       };
-      worlds = subst (λ l. OwnWorldsStand (sealed (vault_of book.seed bench.store)) l) (sym is-line)
-          (subst (λ s. OwnWorldsStand (sealed (vault_of book.seed s)) (line_with line user step)) (sym same_store)
-          led.stands);
-      facts = subst (AllHas (rest_of (heard Done)).facts) (sym is-share) shows.leads.facts;
+      worlds = subst (λ l. OwnWorldsStand (sealed (vault_of (tried_then book after) book.seed bench.store)) l)
+          (sym is-line)
+          (subst (λ v. OwnWorldsStand (sealed v) (line_with line user step)) (sym is-vault) led.stands);
+      facts = subst (AllHas (rest_of (heard Done)).facts) (sym is-share)
+          (noting-facts user scene note (rest_of (heard Done)).facts (rest_of (heard Done)).held
+          (operated scene.share op note) refl shows.leads.known shows.leads.facts);
       known = shows.leads.known;
       owned = subst (λ s. AllOwned s.entries user (rest_of (heard Done)).held) (sym same_store)
           (owned-still (heard Done) shows.held);
@@ -460,18 +526,19 @@ module _ (book : Plain) (actor : Actor) (number : ℕ) (task : UserTask) (whole 
         durable = kept-noted note ∙ whole.agrees.durable;
         pending = pending-noted book.bench bench book.tracker whole.agrees.pending (OpCall user op names)
             (is_some note) (Heard Done)
-            (step-told (sealed (vault_of book.seed book.bench.store)) user line note whole.worlds op shows.step)
+            (step-told (sealed (vault_of (tried_in book) book.seed book.bench.store)) user line note whole.worlds op
+            shows.step)
             (refl, done);
       };
       phase = refl;
       knows = subst (λ b. Knows b.places (view b.disk)) (sym done)
           (knows-view IsLasting (λ user lasting. lasting tt) book.bench.places book.bench.disk user op names known
-          (step-fits (sealed (vault_of book.seed book.bench.store)) user line note whole.worlds op shows.step)
+          (step-fits (sealed (vault_of (tried_in book) book.seed book.bench.store)) user line note whole.worlds op
+          shows.step)
           (subst (λ part. BringsBlob part op names) (view-shown user _ line whole.worlds.shows) shows.brings));
     }
 
-    pub op-moves : IfSome note (λ local. AllowsChange machine.boot on.began on.began.command (change_of user local))
-        → Moves book actor number after
+    pub op-moves : MayNote note → Moves book actor number after
     op-moves may = leads-move (heard Done) (with_note user on.began note) after (op-leads may)
 
   -- a sync
@@ -488,7 +555,7 @@ module _ (book : Plain) (actor : Actor) (number : ℕ) (task : UserTask) (whole 
     sync-line = ap (λ b. timeline b.disk (machine_then book sync_after)) done
 
     abbrev meaning : Meaning
-    meaning = sealed (vault_of book.seed book.bench.store)
+    meaning = sealed (vault_of (tried_in book) book.seed book.bench.store)
 
     sync-leads : LeadsOn (heard Done) on.began sync_after
     sync-leads = record {
@@ -496,16 +563,18 @@ module _ (book : Plain) (actor : Actor) (number : ℕ) (task : UserTask) (whole 
         boot = refl;
         level = ap (λ b. b.store.level) done;
         seed = refl;
+        attempts = λ other. same-tried (tried_in book other);
         kept = λ blob entry live. ap (λ b. entry_of b.store.entries blob) done ∙ live;
         keys = λ other differ. ap (λ b. key_of b.keys other) done;
         others = λ other differ. inr (ap (own_of other) sync-line ∙ own-synced meaning line other whole.worlds);
       };
-      worlds = subst (λ l. OwnWorldsStand (sealed (vault_of book.seed bench.store)) l) (sym sync-line)
-          (subst (λ b. OwnWorldsStand (sealed (vault_of book.seed b.store)) (settled_line line)) (sym done)
+      worlds = subst (λ l. OwnWorldsStand (sealed (vault_of (tried_in book) book.seed bench.store)) l) (sym sync-line)
+          (subst (λ b. OwnWorldsStand (sealed (vault_of (tried_in book) book.seed b.store)) (settled_line line))
+          (sym done)
           (line-settled meaning line whole.worlds));
       facts = subst (AllHas (rest_of (heard Done)).facts) (sym (λ i. record {
         own = (ap (own_of user) sync-line ∙ own-synced meaning line user whole.worlds) i;
-        vault = vault_of book.seed (ap (λ b. b.store) done i);
+        vault = vault_of (tried_in book) book.seed (ap (λ b. b.store) done i);
         keys = key_of (ap (λ b. b.keys) done i) user;
       })) shows.leads.facts;
       known = shows.leads.known;
@@ -552,7 +621,8 @@ module _ (book : Plain) (actor : Actor) (number : ℕ) (task : UserTask) (whole 
       })
       (plain : noted true call false book.tracker ≡ book.tracker)
       (then : machine_with book.ledger.entries machine (entry_of_call number call None)
-      ≡ record machine { ring = aside.owners }) where
+      ≡ record machine { ring = aside.owners })
+      (untried : tried_with book.seed machine (tried_in book) (entry_of_call number call None) ≡ tried_in book) where
     abbrev aside_after : After
     aside_after = heard_after call answer bench
 
@@ -562,11 +632,17 @@ module _ (book : Plain) (actor : Actor) (number : ℕ) (task : UserTask) (whole 
       pub level : aside.store.level ≡ book.bench.store.level
       pub knows : Knows aside.places (view book.bench.disk)
       pub kept : (blob : Blob)
-          → KeepsEntry (vault_of book.seed book.bench.store) (vault_of book.seed aside.store) blob
+          → KeepsEntry (vault_of (tried_in book) book.seed book.bench.store)
+          (vault_of (tried_in book) book.seed aside.store) blob
       pub keys : (other : ℕ) → other ≢ user → key_of aside.keys other ≡ key_of book.bench.keys other
-      pub worlds : OwnWorldsStand (sealed (vault_of book.seed aside.store)) line
+      pub worlds : OwnWorldsStand (sealed (vault_of (tried_in book) book.seed aside.store)) line
       pub leads : Leads (seen_of tasks task) answer scene None (cost_of call)
-          (record { own = own_of user line; vault = vault_of book.seed aside.store; keys = key_of aside.keys user })
+          (record {
+            own = own_of user line;
+            vault = vault_of (tried_in book) book.seed aside.store;
+            keys = key_of
+                aside.keys user;
+          })
       pub owned : AllOwned aside.store.entries user (rest_of (heard answer)).held
       pub differ : Differ (rest_of (heard answer)).held
 
@@ -580,16 +656,20 @@ module _ (book : Plain) (actor : Actor) (number : ℕ) (task : UserTask) (whole 
           boot = ap (λ m. m.boot) then;
           level = ap (λ b. b.store.level) same ∙ led.level;
           seed = refl;
+          attempts = tried-more book (entry_of_call number call None);
           kept = λ blob entry live.
               ap (λ b. entry_of b.store.entries blob) same ∙ led.kept blob entry live;
           keys = λ other differ. ap (λ b. key_of b.keys other) same ∙ led.keys other differ;
           others = λ other differ. inl (ap (own_of other) line-same);
         };
-        worlds = subst (λ l. OwnWorldsStand (sealed (vault_of book.seed bench.store)) l) (sym line-same)
-            (subst (λ b. OwnWorldsStand (sealed (vault_of book.seed b.store)) line) (sym same) led.worlds);
+        worlds = subst (λ l. OwnWorldsStand (sealed (vault_of (tried_then book aside_after) book.seed bench.store)) l)
+            (sym line-same)
+            (subst (λ t. OwnWorldsStand (sealed (vault_of t book.seed bench.store)) line) (sym untried)
+            (subst (λ b. OwnWorldsStand (sealed (vault_of (tried_in book) book.seed b.store)) line) (sym same)
+            led.worlds));
         facts = subst (AllHas (rest_of (heard answer)).facts) (sym (λ i. record {
           own = ap (own_of user) line-same i;
-          vault = vault_of book.seed (ap (λ b. b.store) same i);
+          vault = vault_of (untried i) book.seed (ap (λ b. b.store) same i);
           keys = key_of (ap (λ b. b.keys) same i) user;
         })) led.leads.facts;
         known = led.leads.known;
@@ -648,9 +728,9 @@ module _ (book : Plain) (actor : Actor) (number : ℕ) (task : UserTask) (whole 
     none = not-given book.bench.store blob whole.store generated.fresh
 
     abbrev made_vault : Vault
-    made_vault = vault_of book.seed then_store
+    made_vault = vault_of (tried_in book) book.seed then_store
 
-    kept : (b : Blob) → KeepsEntry (vault_of book.seed book.bench.store) made_vault b
+    kept : (b : Blob) → KeepsEntry (vault_of (tried_in book) book.seed book.bench.store) made_vault b
     kept b entry live = elim (decide-bytes b blob) [
       | inl same ↦ absurd (none-some entry (sym none ∙ sym (ap (entry_of entries) same) ∙ live))
       | inr differ ↦ entry-push_other entries _ b differ ∙ live
@@ -682,14 +762,14 @@ module _ (book : Plain) (actor : Actor) (number : ℕ) (task : UserTask) (whole 
         let now : bench ≡ record book.bench { store = then_store; store_counts = bench.store_counts } =
         same ∙ ap (λ s. record book.bench { store = s; store_counts = bench.store_counts }) generated.made in
         aside-moves (Generate tag app_id) (IsBlob blob) bench (of_store then_store)
-        (counted-too bench _ now) refl refl (record {
+        (counted-too bench _ now) refl refl refl (record {
           may = tt;
           quiet = tt;
           level = refl;
           knows = known;
           kept = kept;
           keys = λ other differ. refl;
-          worlds = worlds-later (vault_of book.seed book.bench.store) made_vault line (record {
+          worlds = worlds-later (vault_of (tried_in book) book.seed book.bench.store) made_vault line (record {
             level = omega arith;
             seed = refl;
             attempts = λ u. record { additions = λ a is. is; secrets = λ a is. is };
@@ -708,7 +788,7 @@ module _ (book : Plain) (actor : Actor) (number : ℕ) (task : UserTask) (whole 
   encrypt-moves blob app_id nonce key bench shows same =
       let answer = Sealed (sealed_text shows.under.entry.key nonce key) in
       aside-moves (Encrypt blob app_id nonce key) answer bench (of_store book.bench.store)
-      (counted-too bench _ same) refl refl (record {
+      (counted-too bench _ same) refl refl refl (record {
         may = tt;
         quiet = tt;
         level = refl;
@@ -730,7 +810,7 @@ module _ (book : Plain) (actor : Actor) (number : ℕ) (task : UserTask) (whole 
   decrypt-moves blob app_id text bench shows same =
       let answer = Decrypted (decrypted book.bench.store blob app_id text) in
       aside-moves (Decrypt blob app_id text) answer bench (of_store book.bench.store)
-      (counted-too bench _ same) refl refl (record {
+      (counted-too bench _ same) refl refl refl (record {
         may = tt;
         quiet = tt;
         level = refl;
@@ -761,7 +841,7 @@ module _ (book : Plain) (actor : Actor) (number : ℕ) (task : UserTask) (whole 
         let each = shows.each files found-here in
         aside-moves (Read place) (Directory files) bench (record (of_store book.bench.store) {
           places = map.insert book.bench.places place (named_by (named_in (map.get (view book.bench.disk) place)));
-        }) (counted-too bench _ same) refl refl (record {
+        }) (counted-too bench _ same) refl refl refl (record {
           may = tt;
           quiet = tt;
           level = refl;
@@ -786,7 +866,7 @@ module _ (book : Plain) (actor : Actor) (number : ℕ) (task : UserTask) (whole 
   add-moves class key bench shows same =
       let keys = installed book.bench.keys user class key in
       aside-moves (Add user class key) Done bench (of_ring keys (with_owner machine.ring user class))
-      (counted-too bench _ same) refl refl (record {
+      (counted-too bench _ same) refl refl refl (record {
         may = (
           ap is_some (sym (known-shown user _ line whole.worlds.shows) ∙ shows.given.there),
           (
@@ -802,7 +882,12 @@ module _ (book : Plain) (actor : Actor) (number : ℕ) (task : UserTask) (whole 
         keys = λ other differ. others-keys book.bench.keys user class key other differ;
         worlds = whole.worlds;
         leads = subst (λ found. Leads (seen_of tasks task) Done scene None no_cost
-            (record { own = own_of user line; vault = vault_of book.seed book.bench.store; keys = found }))
+            (record {
+              own = own_of user line;
+              vault = vault_of (tried_in book) book.seed book.bench.store;
+              keys =
+                  found;
+            }))
             (sym (λ i kind. keys-added book.bench.keys user class key kind i)) shows.leads;
         owned = owned-still (heard Done) (inl shows.held);
         differ = differ-still (heard Done) (inl shows.held);
@@ -815,7 +900,7 @@ module _ (book : Plain) (actor : Actor) (number : ℕ) (task : UserTask) (whole 
   remove-moves class bench shows same =
       let keys = removed book.bench.keys user class in
       aside-moves (Remove user class) Done bench (of_ring keys (without_owner machine.ring user class))
-      (counted-too bench _ same) refl refl (record {
+      (counted-too bench _ same) refl refl refl (record {
         may = (
           number,
           subst (λ found. IsSomeAnd found (λ b. (b.verdict ≡ None) × Evicts b.command user class))
@@ -828,7 +913,12 @@ module _ (book : Plain) (actor : Actor) (number : ℕ) (task : UserTask) (whole 
         keys = λ other differ. others-stay book.bench.keys user class other differ;
         worlds = whole.worlds;
         leads = subst (λ found. Leads (seen_of tasks task) Done scene None no_cost
-            (record { own = own_of user line; vault = vault_of book.seed book.bench.store; keys = found }))
+            (record {
+              own = own_of user line;
+              vault = vault_of (tried_in book) book.seed book.bench.store;
+              keys =
+                  found;
+            }))
             (sym (λ i kind. keys-removed book.bench.keys user class kind whole.ring.once i)) shows.leads;
         owned = owned-still (heard Done) (inl shows.held);
         differ = differ-still (heard Done) (inl shows.held);
@@ -951,7 +1041,7 @@ module _ (book : Plain) (actor : Actor) (number : ℕ) (task : UserTask) (whole 
     line' = timeline bench.disk machine
 
     abbrev vault : Vault
-    vault = vault_of book.seed book.bench.store
+    vault = vault_of (tried_in book) book.seed book.bench.store
 
     record Spares (call : Call) : Type 0 where
       store : bench.store ≡ book.bench.store
@@ -966,6 +1056,8 @@ module _ (book : Plain) (actor : Actor) (number : ℕ) (task : UserTask) (whole 
       store = failed-store book.bench bench user op failed;
       keys = failed-keys book.bench bench (OpCall user op names) failed;
       keeps = step-failed (sealed vault) user line change whole.worlds op bench.disk shows.step
+          (λ none. subst (λ c. StepShows (sealed (noting user scene c)) user (own_of user line)
+          (record { op = op; note = change }) []) none shows.step)
           (failed-disk book.bench bench user op failed);
       told = step-told (sealed vault) user line change whole.worlds op shows.step;
       knows = knows-failed IsLasting (λ u lasting. lasting tt) book.bench bench known user op names
@@ -1006,11 +1098,12 @@ module _ (book : Plain) (actor : Actor) (number : ℕ) (task : UserTask) (whole 
     user-failed call device held shows made all =
         let spared = spares call shows made.1 in
         let stays = noted-stays false call (is_some change) book.tracker in
-        let ground' = ground_at book.seed bench machine in
+        let ground' = ground_at (tried_in book) book.seed bench machine in
         let leaves : LeavesGround (ground_of book) ground' user = record {
           boot = refl;
           level = ap (λ s. s.level) spared.store;
           seed = refl;
+          attempts = λ other. same-tried (tried_in book other);
           kept = λ blob entry live. ap (λ s. entry_of s.entries blob) spared.store ∙ live;
           keys = λ other differ. ap (λ keys. key_of keys other) spared.keys;
           others = spared.keeps.others;
@@ -1025,7 +1118,7 @@ module _ (book : Plain) (actor : Actor) (number : ℕ) (task : UserTask) (whole 
             pending = pending-noted book.bench bench book.tracker whole.agrees.pending call (is_some change)
                 (Failed device) spared.told made;
           };
-          worlds = subst (λ s. OwnWorldsStand (sealed (vault_of book.seed s)) line') (sym spared.store)
+          worlds = subst (λ s. OwnWorldsStand (sealed (vault_of (tried_in book) book.seed s)) line') (sym spared.store)
               spared.keeps.stands;
           boot = refl;
           mine = record {
@@ -1050,7 +1143,8 @@ module _ (book : Plain) (actor : Actor) (number : ℕ) (task : UserTask) (whole 
       → length book.bench.store.given < 2 ^ 63 → Fits book.bench call
   user-fits (OpCall owner op names) change shows few =
       subst (λ u. LocalFits (part_of (view book.bench.disk) u) op) (sym shows.stands.mine)
-      (step-fits (sealed (vault_of book.seed book.bench.store)) user line change whole.worlds op shows.stands.step)
+      (step-fits (sealed (vault_of (tried_in book) book.seed book.bench.store)) user line change whole.worlds op
+      shows.stands.step)
   user-fits Sync change shows few = tt
   user-fits (Generate tag app_id) change shows few = few
   user-fits (Encrypt blob app_id nonce key) change shows few =

@@ -1,6 +1,5 @@
--- A task that heard the output of its job stands as it did before.
-use Rattle.std.proofs.Common.{◌≡◌, refl, sym, ap, ◌∙◌, subst}
-use Rattle.std.specs.Prelude.{Option, Some, None}
+-- A task that heard the outputs of its jobs stands as it did before.
+use Rattle.std.proofs.Common.{◌≡◌, List, [], ◌∷◌, refl, sym, ap, ◌∙◌, subst}
 use Rattle.journal_model.specs.declared.commands.Actor.{Actor}
 use Rattle.journal_model.specs.declared.commands.Actor.TheVariants.{User as UserActor}
 use Rattle.journal_model.specs.Machine.{Running as BeganCommand}
@@ -8,7 +7,8 @@ use Rattle.step_core.specs.declared.jobs.Job.{Job}
 use Rattle.step_core.specs.Jobs.{output_of}
 use Rattle.task_turns.specs.declared.calls.Answer.TheVariants.{Output}
 use Rattle.task_turns.specs.declared.next.Next.{Next}
-use Rattle.task_turns.specs.Turns.{seen_of, WorkShows, AllOwned}
+use Rattle.task_turns.specs.declared.next.Next.TheVariants.{Work as WorkNext}
+use Rattle.task_turns.specs.Turns.{seen_of, WorkShows, TurnShows, AllOwned}
 use Rattle.task_turns.specs.Shares.{AllHas}
 use Rattle.user_tasks.specs.declared.tasks.UserTask.{UserTask}
 use Rattle.user_tasks.specs.Tasks.{tasks, user_of, rest_of}
@@ -18,17 +18,28 @@ use Rattle.vold_book.specs.declared.tasks.Task.TheVariants.{User as Using, Recov
 use Rattle.vold_book.specs.State.{Plain, Ground, machine_of, ground_of, share_of}
 use Rattle.vold_book.specs.Tasks.{TaskStands, RunsOn, HoldsOwn, Worked, Plans, held_in, scene_of}
 
+-- what holds of a task alone, and of a user's before a job where it holds after it, holds after all jobs
+module _ (ground : Ground) (began : BeganCommand) (P : Task → Task → Type 0) (alone : (task : Task) → P task task)
+    (further : (task : UserTask) (job : Job) (now : Task)
+    → TurnShows (seen_of tasks task) (scene_of (user_of task) ground began) (WorkNext job)
+    → P (Using (tasks.after task (Output (output_of job.input)))) now → P (Using task) now) where
+  pub after-jobs : (jobs : List Job) (task now : Task) → Worked ground began task now jobs → P task now
+  after-jobs [] task now worked = subst (P task) (sym worked) (alone task)
+  after-jobs (job ∷ jobs) (Using task) now worked =
+      further task job now worked.0 (after-jobs jobs (Using _) now worked.1)
+  after-jobs (job ∷ jobs) (Recovers recovery) now worked = absurd worked
+  after-jobs (job ∷ jobs) (Refusal reply) now worked = absurd worked
+  after-jobs (job ∷ jobs) (Fault device held) now worked = absurd worked
+
 -- a recovery asks for no job
-pub recovers-it : (ground : Ground) (began : _) (task now : Task) (job : Option Job) (recovery : _)
-    → Worked ground began task now job → now ≡ Recovers recovery → task ≡ Recovers recovery
-recovers-it ground began task now None recovery worked is = sym worked ∙ is
-recovers-it ground began (Using task) now (Some job) recovery worked is = absurd (apart (sym worked.0 ∙ is))
+pub recovers-it : (ground : Ground) (began : BeganCommand) (task now : Task) (jobs : List Job) (recovery : _)
+    → Worked ground began task now jobs → now ≡ Recovers recovery → task ≡ Recovers recovery
+recovers-it ground began task now jobs recovery =
+    after-jobs ground began (λ task now. now ≡ Recovers recovery → task ≡ Recovers recovery) (λ task is. is)
+    (λ task job now shows later is. absurd (apart (later is))) jobs task now
   where
     apart : {task : _} → Using task ≡ Recovers recovery → ⊥
     apart e = cc
-recovers-it ground began (Recovers r) now (Some job) recovery worked is = absurd worked
-recovers-it ground began (Refusal reply) now (Some job) recovery worked is = absurd worked
-recovers-it ground began (Fault device held) now (Some job) recovery worked is = absurd worked
 
 module _ (ground : Ground) (actor : Actor) (began : BeganCommand) where
   -- where a task stands and what it holds
@@ -56,22 +67,20 @@ module _ (ground : Ground) (actor : Actor) (began : BeganCommand) where
       held = shows.held;
     }
 
-  pub worked-stands : (task now : Task) (job : Option Job) → Worked ground began task now job
+  pub worked-stands : (task now : Task) (jobs : List Job) → Worked ground began task now jobs
       → TaskStands ground task began → StandsNow task now
-  worked-stands task now None worked stands =
-      subst (StandsNow task) (sym worked) (record { stands = stands; held = refl })
-  worked-stands (Using task) now (Some job) worked stands =
-      subst (StandsNow (Using task)) (sym worked.0) (heard-stands task job stands worked.1)
-  worked-stands (Recovers recovery) now (Some job) worked stands = absurd worked
-  worked-stands (Refusal reply) now (Some job) worked stands = absurd worked
-  worked-stands (Fault device held) now (Some job) worked stands = absurd worked
+  worked-stands task now jobs = after-jobs ground began (λ task now. TaskStands ground task began → StandsNow task now)
+      (λ task stands. record { stands = stands; held = refl })
+      (λ task job now shows later stands.
+      let heard = heard-stands task job stands shows in
+      let then = later heard.stands in record { stands = then.stands; held = then.held ∙ heard.held }) jobs task now
 
 module _ (book : Plain) (actor : Actor) (it : Running) (now : Task) (next : Next)
     (plans : Plans book actor it now next) where
   stands-both : StandsNow (ground_of book) actor plans.on.began it.task now
-  stands-both = worked-stands (ground_of book) actor plans.on.began it.task now plans.job plans.worked plans.on.stands
+  stands-both = worked-stands (ground_of book) actor plans.on.began it.task now plans.jobs plans.worked plans.on.stands
 
-  -- the command with its job done stands and holds what it held
+  -- the command with its jobs done stands and holds what it held
   pub stands-now : TaskStands (ground_of book) now plans.on.began
   stands-now = stands-both.stands
 

@@ -5,6 +5,8 @@ use Rattle.journal_model.specs.declared.entries.Entry.TheVariants.{Changed, Sync
 use Rattle.journal_model.specs.Machine.{Machine, after_entry, MayCome}
 use Rattle.user_world.specs.declared.changes.LocalChange.{LocalChange}
 use Rattle.user_world.specs.Changes.{change_of}
+use Rattle.key_directory.specs.Tried.{attempts_after}
+use Rattle.key_directory.specs.Vaults.{Attempts}
 use Rattle.task_turns.specs.declared.calls.Call.{Call}
 use Rattle.task_turns.specs.declared.calls.Call.TheVariants.{Op, Sync, Add, Remove}
 use Rattle.bench.specs.declared.made.Made.{Made}
@@ -30,6 +32,11 @@ made_entry (Failed device) entry = None
 abbrev pub machine_with : List Entry → Machine → Option Entry → Machine
 machine_with entries machine None = machine
 machine_with entries machine (Some entry) = after_entry entries machine entry
+
+-- and what was tried with secrets then, by user
+abbrev pub tried_with : List ℕ → Machine → (ℕ → Attempts) → Option Entry → (ℕ → Attempts)
+tried_with seed machine tried None = tried
+tried_with seed machine tried (Some entry) = λ user. attempts_after seed user machine (tried user) entry
 
 abbrev pub may_with : List Entry → Machine → Option Entry → Type 0
 may_with entries machine None = Unit {0}

@@ -1,5 +1,5 @@
--- What a user's task does next once a job that it asked for is done.
-use Rattle.std.specs.Prelude.{◌≡◌, Option, Some, None}
+-- What a user's task does next once the jobs that it asks for are done.
+use Rattle.std.specs.Prelude.{◌≡◌, List, [], ◌∷◌, Option, unwrap_or}
 use Rattle.tree_model.specs.declared.sites.Site.{Site}
 use Rattle.step_core.specs.declared.jobs.Job.{Job}
 use Rattle.step_core.specs.Jobs.{output_of}
@@ -21,16 +21,14 @@ abbrev pub IsSettledNext : Next → Type 0
 IsSettledNext (WorkNext job) = ⊥
 IsSettledNext next = Unit {0}
 
--- the task does this next, once it heard what a job computed
-pub record PlansWorked (task now : UserTask) (site : Option Site) (plan : Plan) : Type 0 where
-  pub job : Job
-  pub asks : UserTurns task site (WorkNext job)
-  pub heard : now ≡ tasks.after task (Output (output_of job.input))
-  pub turns : UserTurns now site (next_of plan)
+-- a task, or what it is once it heard the outputs of the jobs that it asks for, one after another
+abbrev pub Works : UserTask → Option Site → UserTask → List Job → Type 0
+Works task site now [] = now ≡ task
+Works task site now (job ∷ jobs) =
+    UserTurns task site (WorkNext job) × Works (tasks.after task (Output (output_of job.input))) site now jobs
 
-abbrev pub PlansBy : UserTask → Option Site → Plan → Option UserTask → Type 0
-PlansBy task site plan None = UserTurns task site (next_of plan)
-PlansBy task site plan (Some now) = PlansWorked task now site plan
-
-abbrev pub PlansUser : UserTask → Option Site → Planned → Type 0
-PlansUser task site planned = PlansBy task site planned.plan planned.task
+-- the task does this next, once its jobs are done
+pub record PlansUser (task : UserTask) (site : Option Site) (planned : Planned) : Type 0 where
+  pub jobs : List Job
+  pub works : Works task site (unwrap_or planned.task task) jobs
+  pub turns : UserTurns (unwrap_or planned.task task) site (next_of planned.plan)

@@ -1,11 +1,16 @@
--- The slots that a command with a secret has to try, by what is known of the tree's places.
-use Rattle.std.specs.Prelude.{ℕ, ◌==◌, ◌&&◌, cond, List, [], ◌∷◌, ◌++◌}
+-- A user's slots, by what is known of the tree's places: those that a command with a secret has to try, whether one is
+-- left for a further secret, and which.
+use Rattle.std.specs.Prelude.{ℕ, ◌==◌, ◌^◌, ◌&&◌, nat_le, Bool, false, is_some, cond, List, [], ◌∷◌, ◌++◌}
+use Rattle.std.specs.Prelude.{Option, Some, None}
+use Rattle.std.specs.List.{flat_map}
 use Rattle.std.specs.FinMap as map
 use Rattle.tree_model.specs.declared.places.Place.{Place}
-use Rattle.tree_model.specs.declared.places.Place.TheVariants.{Ce}
+use Rattle.tree_model.specs.declared.places.Place.TheVariants.{De, Ce}
 use Rattle.tree_model.specs.declared.places.Slot.{Slot}
+use Rattle.tree_model.specs.declared.places.Slot.TheVariants.{Current, Cx}
 use Rattle.journal_model.specs.declared.commands.Command.{Command}
-use Rattle.journal_model.specs.declared.commands.Command.TheVariants.{Unlock}
+use Rattle.journal_model.specs.declared.commands.Command.TheVariants.{Unlock, Protect}
+use Rattle.journal_model.specs.Users.{leave_none, next_number}
 use Rattle.key_directory.specs.Opened.{fits_secret}
 use Rattle.step_core.specs.Table.{NamedPlaces, named_by}
 
@@ -23,4 +28,28 @@ slots_in places user secret (place ∷ rest) = slots_in places user secret rest 
 -- what a command has to try
 abbrev pub slots_for : NamedPlaces → Command → List Slot
 slots_for places (Unlock user secret) = slots_in places user secret (map.keys places)
+slots_for places (Protect user given fresh) = slots_in places user given (map.keys places)
 slots_for places command = []
+
+-- the slot of a place, where it is one of the user's
+abbrev pub slot_of : ℕ → Place → List Slot
+slot_of user (Ce owner slot) = cond (owner == user) (slot ∷ []) []
+slot_of user place = []
+
+-- all slots of a user
+abbrev pub slots_known : NamedPlaces → ℕ → List Slot
+slots_known places user = flat_map (slot_of user) (map.keys places)
+
+-- whether none is left for a further secret of the user, if there is one: of a user who is there
+abbrev pub is_full : NamedPlaces → Option ℕ → Bool
+is_full places None = false
+is_full places (Some user) = is_some (map.get places (De user)) && leave_none (slots_known places user)
+
+-- the slot of a number, where one has it
+abbrev pub slot_numbered : ℕ → Slot
+slot_numbered n = cond (nat_le (2 ^ 32) n) Current (Cx n)
+
+-- the slot that it comes into, where one is left
+abbrev pub slot_next : NamedPlaces → Command → Slot
+slot_next places (Protect user given fresh) = slot_numbered (next_number (slots_known places user))
+slot_next places command = Current

@@ -1,5 +1,5 @@
 -- What contracts see of a Book.
-use Rattle.std.specs.Prelude.{ℕ, List, []}
+use Rattle.std.specs.Prelude.{ℕ, List}
 use Rattle.tree_model.specs.Disk.{Disk}
 use Rattle.key_ring.specs.Ring.{Ring, key_of}
 use Rattle.tree_model.specs.Counted.{Counts}
@@ -12,6 +12,7 @@ use Rattle.docket.specs.Docket.{DocketState, StoredDocket, docket_of}
 use Rattle.deferred_delete.specs.Deferral.{Deferral}
 use Rattle.keystore_model.specs.Store.{Store}
 use Rattle.user_world.specs.Timelines.{Timeline, own_of}
+use Rattle.key_directory.specs.Tried.{attempts_of}
 use Rattle.key_directory.specs.Vaults.{Vault, Attempts}
 use Rattle.step_core.specs.Table.{NamedPlaces}
 use Rattle.task_turns.specs.Shares.{Share}
@@ -105,13 +106,14 @@ machine_of book = machine_after book.ledger.entries
 abbrev pub timeline : Disk → Machine → Timeline
 timeline disk machine = record { disk = disk; kept = machine.kept; log = machine.log }
 
--- what directories are opened with: nothing was added under a secret yet
-abbrev pub no_attempts : ℕ → Attempts
-no_attempts user = record { additions = []; secrets = [] }
+-- what was tried with secrets, by user, as the journal tells it
+abbrev pub tried_in : {B : Type 0} → BookState B → ℕ → Attempts
+tried_in book = attempts_of book.seed book.ledger.entries
 
-abbrev pub vault_of : List ℕ → Store → Vault
-vault_of seed store =
-    record { entries = store.entries; level = store.level; seed = seed; attempts = no_attempts }
+-- what directories are opened with
+abbrev pub vault_of : (ℕ → Attempts) → List ℕ → Store → Vault
+vault_of tried seed store =
+    record { entries = store.entries; level = store.level; seed = seed; attempts = tried }
 
 -- what tasks rest on: the machine's phase and boot, the disk with its changes, what directories are opened with, the
 -- keys in the ring, the known places and the list of waiting deletes
@@ -124,19 +126,19 @@ pub record Ground : Type 0 where
   pub places : NamedPlaces
   pub list : Deferral
 
-abbrev pub ground_at : List ℕ → Seen → Machine → Ground
-ground_at seed bench machine = record {
+abbrev pub ground_at : (ℕ → Attempts) → List ℕ → Seen → Machine → Ground
+ground_at tried seed bench machine = record {
   phase = machine.phase;
   boot = machine.boot;
   line = timeline bench.disk machine;
-  vault = vault_of seed bench.store;
+  vault = vault_of tried seed bench.store;
   keys = bench.keys;
   places = bench.places;
   list = bench.list;
 }
 
 abbrev pub ground_of : Plain → Ground
-ground_of book = ground_at book.seed book.bench (machine_of book)
+ground_of book = ground_at (tried_in book) book.seed book.bench (machine_of book)
 
 -- a user's share of it
 abbrev pub share_of : ℕ → Ground → Share

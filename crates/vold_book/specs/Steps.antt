@@ -34,7 +34,7 @@ pub record RepliesNext (book : Plain) (actor : Actor) (reply : Reply) : Type 0 w
   pub now : Task
   pub plans : Plans book actor it now (ReplyNext reply)
 
--- the user's task with its job done, where there was one
+-- the user's task with its jobs done, where there was one
 abbrev pub task_now : Option UserTask → Task → Task
 task_now None task = task
 task_now (Some user) task = User user

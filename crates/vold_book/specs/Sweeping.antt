@@ -1,10 +1,11 @@
 -- What of the known places is in the way of a command or left half made.
-use Rattle.std.specs.Prelude.{◌≡◌, ℕ, Option, Some, None, IsSome}
+use Rattle.std.specs.Prelude.{◌≡◌, ◌≢◌, ℕ, Option, Some, None, IsSome}
 use Rattle.std.specs.declared.cmp.Ordering.TheVariants.{Less}
 use Rattle.std.specs.FinMap as map
 use Rattle.tree_model.specs.declared.places.Place.{Place}
 use Rattle.tree_model.specs.declared.places.Place.TheVariants.{De, Ce, Temp}
 use Rattle.tree_model.specs.declared.sites.Site.{Site}
+use Rattle.tree_model.specs.declared.sites.Site.TheVariants.{Temp as TempSite}
 use Rattle.tree_model.specs.Order.{place_cmp}
 use Rattle.tree_model.specs.Tree.{Tree}
 use Rattle.tree_model.specs.Sites.{place_of}
@@ -44,10 +45,11 @@ IsFirstInTheWay places user None = (place : Place) → IsInTheWay user place →
 IsFirstInTheWay places user (Some place) =
     IsInTheWay user place × IsSome (map.get places place) × IsNextInTheWay places user place
 
--- the same, by the user's sites
+-- the same, by the user's sites: the temporary one comes first
 abbrev pub IsNextSite : NamedPlaces → ℕ → Option Site → Type 0
 IsNextSite places user None = (site : Site) → IsSiteInTheWay site → map.get places (place_of user site) ≡ None
 IsNextSite places user (Some site) = IsSiteInTheWay site × IsSome (map.get places (place_of user site))
+    × (site ≢ TempSite → map.get places (Temp user) ≡ None)
 
 abbrev pub IsTemporary : Place → Type 0
 IsTemporary (Temp user) = Unit {0}

@@ -1,5 +1,5 @@
 -- Where a running command stands, and what its task has to show of its next turn.
-use Rattle.std.specs.Prelude.{◌≡◌, ℕ, Bool, true, false, List, [], ◌∷◌, ◌++◌, Option, Some, None, Contains}
+use Rattle.std.specs.Prelude.{◌≡◌, ℕ, Bool, true, false, List, [], ◌∷◌, ◌++◌, Some, None, Contains}
 use Rattle.std.specs.Prelude.{option_to_list}
 use Rattle.std.specs.FinMap as map
 use Rattle.tree_model.specs.declared.blobs.Blob.{Blob}
@@ -122,17 +122,18 @@ abbrev pub TaskAfter : Call → Made → Task → Task → Type 0
 TaskAfter call (Heard answer) task then = then ≡ task_heard call answer task
 TaskAfter call (Failed device) task then = TellsFault device (held_in task) then
 
--- a task, or what a user's is once it heard the output of the job that it asked for
-abbrev pub Worked : Ground → Began → Task → Task → Option Job → Type 0
-Worked ground began task now None = now ≡ task
-Worked ground began (User task) now (Some job) = (now ≡ User (tasks.after task (Output (output_of job.input))))
-    × TurnShows (seen_of tasks task) (scene_of (user_of task) ground began) (WorkNext job)
-Worked ground began task now (Some job) = ⊥
+-- a task, or what a user's is once it heard the outputs of the jobs that it asked for
+abbrev pub Worked : Ground → Began → Task → Task → List Job → Type 0
+Worked ground began task now [] = now ≡ task
+Worked ground began (User task) now (job ∷ jobs) =
+    TurnShows (seen_of tasks task) (scene_of (user_of task) ground began) (WorkNext job)
+    × Worked ground began (User (tasks.after task (Output (output_of job.input)))) now jobs
+Worked ground began task now (job ∷ jobs) = ⊥
 
--- the actor's next turn does this, after a job or none, and shows what it has to
+-- the actor's next turn does this, after the jobs that it asks for, and shows what it has to
 pub record Plans (book : Plain) (actor : Actor) (it : Running) (now : Task) (next : Next) : Type 0 where
   pub runs : map.get book.docket.running actor ≡ Some it
   pub on : RunsOn (ground_of book) (machine_of book) actor it
-  pub job : Option Job
-  pub worked : Worked (ground_of book) on.began it.task now job
+  pub jobs : List Job
+  pub worked : Worked (ground_of book) on.began it.task now jobs
   pub shows : TaskShows (ground_of book) on.began now next

@@ -54,7 +54,7 @@ use Rattle.vold_book.specs.Entries.{entry_of, made_entry}
 use Rattle.vold_book.specs.Parts.{no_ledger, new_tracker, ledger_with, noted}
 use Rattle.vold_book.specs.Crowds.{is_crowded}
 use Rattle.vold_book.specs.Recovery.{max_commands, AllPlaced}
-use Rattle.vold_book.specs.Slots.{slots_for}
+use Rattle.vold_book.specs.Slots.{slots_for, is_full, slot_next}
 use Rattle.vold_book.specs.State.{BookState, Plain, over, seen, machine_of}
 use Rattle.vold_book.specs.Sweeping.{IsTidy}
 use Rattle.vold_book.specs.Tasks.{begins_anew, lists_with, TaskAfter, fault_of}
@@ -110,26 +110,32 @@ facts_in places book command = record {
   present = user_there places (user_in command);
   crowded = is_crowded places book.docket;
   installed = is_unlocked (user_in command) (machine_of book).ring;
+  full = is_full places (user_in command);
   ready = is_up book.tracker.phase;
 }
 
--- what a command begins with: its birth, the seed of the boot, and the slots that it has to try
+-- what a command begins with: its birth, the seed of the boot, the slots that it has to try, and the one that a
+-- further
+-- secret comes into
 pub record Start : Type 0 where
   pub birth : Birth
   pub boot_seed : List ℕ
   pub slots : List Slot
+  pub next : Slot
 
 abbrev pub start_in : {B : Type 0} → NamedPlaces → BookState B → Actor → Command → Start
 start_in places book actor command = record {
   birth = record { boot = book.tracker.boot; index = begun_by book.docket actor };
   boot_seed = book.boot_seed;
   slots = slots_for places command;
+  next = slot_next places command;
 }
 
 -- what a command does first that isn't refused: what a user's task begins with, or what a recovery does
 abbrev pub AcceptedTask : Command → Start → Option ℕ → Task → Type 0
 AcceptedTask command start (Some user) task =
-    (first : UserTask) × (task ≡ Using first) × TaskBegins command start.birth start.boot_seed start.slots first
+    (first : UserTask) × (task ≡ Using first) × TaskBegins command start.birth start.boot_seed start.slots
+    start.next first
 AcceptedTask command start None task = task ≡ Recovery Listing
 
 -- what it does first: its refusal where one is due

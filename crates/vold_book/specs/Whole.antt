@@ -47,6 +47,7 @@ use Rattle.vold_book.specs.Installed.{RingStands}
 use Rattle.vold_book.specs.Parts.{Agrees}
 use Rattle.vold_book.specs.Recovery.{max_commands, max_places, recovery_left}
 use Rattle.vold_book.specs.State.{Docket, BookState, Plain, seen, machine_of, timeline, ground_of, vault_of}
+use Rattle.vold_book.specs.State.{tried_in}
 use Rattle.vold_book.specs.Tasks.{RunsOn, held_in}
 
 -- a command that began is the one that its number was given to
@@ -196,15 +197,16 @@ pub record Whole (book : Plain) : Type 0 where
   pub seeded : book.boot_seed ≡ boot_seed_of book.seed book.tracker.boot
   pub store : IsStore book.bench.store
   pub level : book.bench.store.level ≡ book.tracker.level
-  pub current : AreCurrent (vault_of book.seed book.bench.store)
+  pub current : AreCurrent (vault_of (tried_in book) book.seed book.bench.store)
   -- every tree that a stop can leave stands for the changes up to there
-  pub images : ImagesStand (sealed (vault_of book.seed book.bench.store)) book.bench.disk (machine_of book).kept
+  pub images : ImagesStand (sealed (vault_of (tried_in book) book.seed book.bench.store)) book.bench.disk
+      (machine_of book).kept
       (machine_of book).log
   -- the same by users
-  pub worlds : OwnWorldsStand (sealed (vault_of book.seed book.bench.store))
+  pub worlds : OwnWorldsStand (sealed (vault_of (tried_in book) book.seed book.bench.store))
       (timeline book.bench.disk (machine_of book))
   -- the keys in the ring are made ones of users who are there, and the machine knows whose they are
-  pub ring : RingStands book.seed book.bench.keys (machine_of book)
+  pub ring : RingStands (tried_in book) book.seed book.bench.keys (machine_of book)
   pub numbers : Numbers book.docket book.ledger.entries (machine_of book)
   -- each actor's command stands where its task says, and each command on the machine is run by its actor
   pub run : (actor : Actor) (it : Running) → map.get book.docket.running actor ≡ Some it

@@ -13,7 +13,7 @@ ghost use Rattle.tree_model.specs.Counted.{IsCounted};
 ghost use Rattle.tree_model.specs.Disk.{view};
 ghost use Rattle.task_turns.specs.declared.next.Next.TheVariants.{Call as CallNext, Reply as ReplyNext};
 ghost use Rattle.vold_book.specs.Recovery.{max_commands};
-ghost use Rattle.vold_book.specs.Slots.{slots_for};
+ghost use Rattle.vold_book.specs.Slots.{slots_for, slot_next};
 ghost use Rattle.vold_book.specs.Stands.{standing_of, IsLooked};
 ghost use Rattle.vold_book.specs.State.{machine_of, seen, senses};
 ghost use Rattle.vold_book.specs.Steps.{IsStep, GoesOn, RepliesTo, IsPlanned, RepliesNext};
@@ -280,6 +280,7 @@ impl<T: TreeDisk, K: Keystore, G: KeyRing> Book<T, K, G> {
           birth = birth;
           boot_seed = self.now.boot_seed;
           slots = slots_for self.now.bench.places command.now;
+          next = slot_next self.now.bench.places command.now;
         })
             (refusal_of command.now (facts_in self.now.bench.places self.now command.now))) }
     {
@@ -287,6 +288,7 @@ impl<T: TreeDisk, K: Keystore, G: KeyRing> Book<T, K, G> {
             present: self.is_there(command.user()),
             crowded: crowds::is_crowded(&self.bench.table, &self.docket),
             installed: self.is_unlocked(command.user()),
+            full: slots::is_full(&self.bench.table, command.user()),
             ready: self.tracker.phase() == Phase::Up,
         };
         match refusal(command, facts) {
@@ -302,11 +304,14 @@ impl<T: TreeDisk, K: Keystore, G: KeyRing> Book<T, K, G> {
           birth = birth;
           boot_seed = self.now.boot_seed;
           slots = slots_for self.now.bench.places command.now;
+          next = slot_next self.now.bench.places command.now;
         })
             (user_in command.now)) }
     {
         let slots = slots::slots_for(self.alloc, &self.bench.table, command)?;
-        match user_tasks::first(self.alloc, command, number, birth, &self.bench.seed, slots)? {
+        let next = slots::slot_next(&self.bench.table, command);
+        let seed = &self.bench.seed;
+        match user_tasks::first(self.alloc, command, number, birth, seed, slots, next)? {
             Some(task) => Ok(Task::User(task)),
             None => Ok(Task::Recovery(Recovery::Listing)),
         }
@@ -372,8 +377,8 @@ impl<T: TreeDisk, K: Keystore, G: KeyRing> Book<T, K, G> {
         }
     }
 
-    /// Makes the call of the command that the actor runs; `task` is the user's task with its job done, where it asked
-    /// for one.
+    /// Makes the call of the command that the actor runs; `task` is the user's task with its jobs done, where it asked
+    /// for any.
     fn call(
         &mut self,
         actor: Actor,
@@ -393,9 +398,9 @@ impl<T: TreeDisk, K: Keystore, G: KeyRing> Book<T, K, G> {
         self.tracker.reserve()?;
         let made = self.bench.make(self.alloc, &call)?;
         let it = self.docket.set(actor, Running::none());
+        self.tracker.note(&call, made.was_done(), change.is_some());
         let entry = entry_of(&made, &call, change, it.number);
         self.ledger.note(actor, entry);
-        self.tracker.note(&call, made.was_done(), change.is_some());
         let now = it.task.worked(task);
         let running = Running {
             number: it.number,

@@ -1,4 +1,4 @@
-//! What an actor's command does next, once a job that it asked for is done.
+//! What an actor's command does next, once the jobs that it asks for are done.
 ghost use Rattle.std.specs.Prelude.{◌≡◌, IfOk};
 ghost use Rattle.vold_book.specs.Plans.{IsSettledNext, PlansUser, next_of};
 
@@ -25,25 +25,25 @@ pub enum Plan {
 /// What a command does next.
 #[derive(Drop)]
 pub struct Planned {
-    /// The user's task with its job done, where it asked for one.
+    /// The user's task with its jobs done, where it asked for any.
     pub task: Option<UserTask>,
     pub plan: Plan,
 }
 
-/// What a user's task does next, where this is the first of the user's sites that is in the way; its job is done.
+/// What a user's task does next, where this is the first of the user's sites that is in the way; its jobs are done.
 pub fn planned_user(alloc: Global, task: &UserTask, site: Option<Site>) -> Result<Planned, NoMemory>
     ensures { IfOk result (PlansUser task.now site) }
 {
     match task.next(alloc, site)? {
         Next::Work(job) => {
+            let mut then = task.duplicate(alloc)?;
             let Ok(done) = perform(alloc, job) else {
                 return Err(NoMemory);
             };
-            let mut task = task.duplicate(alloc)?;
-            task.heard(Answer::Output(done.into_output()));
-            let plan = plan_of(task.next(alloc, site)?);
+            then.heard(Answer::Output(done.into_output()));
+            let Planned { task, plan } = planned_user(alloc, &then, site)?;
             Ok(Planned {
-                task: Some(task),
+                task: Some(task.unwrap_or(then)),
                 plan,
             })
         }

@@ -93,7 +93,7 @@ impl Task {
         }
     }
 
-    /// The task, or the user's with its job done, where it asked for one.
+    /// The task, or the user's with its jobs done, where it asked for any.
     pub fn worked(self, done: Option<UserTask>) -> Task
         ensures { result ≡ task_now done self }
     {

@@ -13,5 +13,6 @@ returns c =
       present = c.is_present.ensures i;
       crowded = nat_le max_users (many i);
       installed = true;
+      full = c.is_full.ensures i;
       ready = false;
     }))

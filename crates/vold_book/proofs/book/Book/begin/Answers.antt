@@ -7,7 +7,7 @@ use Rattle.journal_model.specs.Refusals.{refusal_of}
 use Rattle.docket.specs.Docket.{docket_of}
 use Rattle.bench.specs.Bench.{BenchState, Senses}
 use Rattle.vold_book.specs.State.{BookState, book_of, senses}
-use Rattle.vold_book.specs.Slots.{slots_for}
+use Rattle.vold_book.specs.Slots.{slots_for, slot_next}
 use Rattle.vold_book.specs.Turns.{Begins, FirstTask, facts_in, unlisted}
 use Rattle.vold_book.proofs.Books.{begun-book, begins-whole}
 use Rattle.vold_book.proofs.Machines.{few-begin}
@@ -64,6 +64,7 @@ begun g c =
       birth = record { boot = c.boot.result; index = c.begun.result };
       boot_seed = b.boot_seed;
       slots = slots_for b.bench.places c.in_ok-command.command;
+      next = slot_next b.bench.places c.in_ok-command.command;
     }) (refusal_of c.in_ok-command.command (facts_in b.bench.places b c.in_ok-command.command))
     c.in_ok-task.task) (sym c.self.view_is) c.in_ok-task.ensures)
     (λ i. record {

@@ -37,8 +37,8 @@ make-requires g c = record {
       (subst (λ b. planned g b c.args.actor c.args.task c.args.call c.args.change) (sym c.self.view_is) c.requires);
 }
 
-pub note-requires-2-clause-few : goal.note-requires-2-clause-few
-note-requires-2-clause-few g c =
+pub note-requires-clause-few : goal.note-requires-clause-few
+note-requires-clause-few g c =
     subst (λ t. t.durable + count_changes t.pending < 2 ^ 64) (sym c.in_ok-reserve-2.ensures.same)
     (changes-fit (means g) _ c.self.invariant
     (subst (λ l. length l.entries < 2 ^ 64) c.in_ok-reserve.ensures.same c.in_ok-reserve.ensures.few))
@@ -90,9 +90,9 @@ abbrev after : (g : Over) (c : goal.Joined-call-7 g) → BookState (BenchState g
 after g c = record (before g c) {
   bench = bench g c;
   boot_seed = c.make.new.self.seed;
-  ledger = c.note.new.self.now;
+  ledger = c.note-2.new.self.now;
   docket = docket_of actor_cmp c.set.new.self;
-  tracker = c.note-2.new.self.now;
+  tracker = c.note.new.self.now;
 }
 
 abbrev making : (g : Over) (c : goal.Joined-call-7 g) → Making
@@ -110,13 +110,13 @@ makes g c =
     let actor = c.args.actor in
     let then : Running = record { number = c.set-it.result.number; task = c.after.result } in
     called-book (before g c) actor c.set-it.result (making g c) (means g) c.in_ok-made.made (bench g c)
-    c.make.new.self.seed c.note.new.self.now c.note-2.new.self.now (docket_of actor_cmp c.set.new.self)
+    c.make.new.self.seed c.note-2.new.self.now c.note.new.self.now (docket_of actor_cmp c.set.new.self)
     c.in_ok-made.ensures.made c.in_ok-made.ensures.counted c.in_ok-made.ensures.answers
     (subst (λ t. TaskAfter c.args.call c.in_ok-made.made t c.after.result) c.worked-now.ensures c.after.ensures)
     c.in_ok-made.ensures.seed
-    (c.note.ensures ∙ ap (λ l. ledger_with l actor c.entry_of-entry.result) c.in_ok-reserve.ensures.same
+    (c.note-2.ensures ∙ ap (λ l. ledger_with l actor c.entry_of-entry.result) c.in_ok-reserve.ensures.same
     ∙ ap (ledger_with c.self.inside.ledger.now actor) c.entry_of-entry.ensures)
-    (c.note-2.ensures
+    (c.note.ensures
     ∙ ap (noted c.was_done.result c.args.call c.is_some.result) c.in_ok-reserve-2.ensures.same
     ∙ ap (λ done. noted done c.args.call c.is_some.result c.self.inside.tracker.now) c.was_done.ensures
     ∙ ap (λ changes. noted (was_done c.in_ok-made.made) c.args.call changes c.self.inside.tracker.now)

@@ -2,7 +2,7 @@ use Rattle.std.proofs.Common.{◌≡◌, ◌∙◌}
 use Rattle.std.proofs.lemmas.Result.{on_ok_weaker}
 use Rattle.script_text.specs.Words.{decimal}
 use Rattle.script_text.proofs.Pieces.{padded}
-use Rattle.script_text.proofs.tree_lines.push_ten_digits.Goals as goal
+use Rattle.script_text.proofs.slots.push_ten_digits.Goals as goal
 
 pub returns : goal.returns
 returns c =
