@@ -13,7 +13,6 @@ use Rattle.journal_model.specs.declared.commands.Reply.{Reply}
 use Rattle.journal_model.specs.declared.commands.Reply.TheVariants.{Done, Ended, UserExists, TooManyUsers, NoUser}
 use Rattle.journal_model.specs.declared.commands.Reply.TheVariants.{NotInstalled, NoSlot, WrongSecret, Ready}
 use Rattle.journal_model.specs.declared.entries.Change.{Change}
-use Rattle.journal_model.specs.declared.entries.Change.TheVariants.{Add as Added}
 use Rattle.journal_model.specs.declared.phase.Phase.{Phase}
 use Rattle.journal_model.specs.declared.phase.Phase.TheVariants.{Halted}
 use Rattle.journal_model.specs.declared.refusals.Facts.{Facts}

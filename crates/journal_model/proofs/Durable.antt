@@ -1,20 +1,21 @@
--- Durable changes stay: entry by entry, and of a create that was answered.
+-- Durable changes stay: entry by entry, and of a command that was answered.
 use Rattle.std.proofs.Common.{◌≡◌, ◌≢◌, ℕ, ◌≤◌, List, [], ◌∷◌, ◌++◌, length, take, inl, inr, refl, sym, ap, ◌∙◌}
 use Rattle.std.proofs.Common.{subst, arith, append_assoc, length-append}
 use Rattle.std.specs.Prelude.{drop, Option, Some, None, IsSomeAnd, Contains}
 use Rattle.std.specs.FinMap as map
 use Rattle.std.proofs.lemmas.List.{append-nil, take-append-drop, take-append-le, take_all, length-take-le}
 use Rattle.std.proofs.lemmas.List.Elements.{Contains-push_cases, Contains-append_cases}
+use Rattle.journal_model.specs.declared.commands.Command.{Command}
+use Rattle.journal_model.specs.declared.commands.Command.TheVariants.{Create, Protect}
 use Rattle.journal_model.specs.declared.commands.Reply.TheVariants.{Done}
 use Rattle.journal_model.specs.declared.entries.Change.{Change}
-use Rattle.journal_model.specs.declared.entries.Change.TheVariants.{Create as Created}
 use Rattle.journal_model.specs.declared.entries.Entry.{Entry}
 use Rattle.journal_model.specs.declared.entries.Entry.TheVariants.{Began, Changed, Synced, Installed, Evicted}
 use Rattle.journal_model.specs.declared.entries.Entry.TheVariants.{Stopped, Restarted, Replied}
 use Rattle.journal_model.specs.Users.{owner_of}
 use Rattle.journal_model.specs.Machine.{Machine, Running, first_machine, after_entry, machine_from, NoChangeOf}
 use Rattle.journal_model.specs.Machine.{AllowsReply, DidWork, evidence_of, MayCome, IsLegal, IsLegalFrom}
-use Rattle.journal_model.specs.Durable.{durable_changes, IsFront, Survive, LawOfCreated}
+use Rattle.journal_model.specs.Durable.{durable_changes, IsFront, Survive, LawOfAnswered, MadeDurably}
 
 -- no more changes are durable than there are
 abbrev IsCounted : Machine → Type 0
@@ -128,14 +129,13 @@ another-change user (first ∷ changes) change none there =
       | inr rest ↦ another-change user changes change none.1 rest
     ]
 
-pub created : LawOfCreated
-created entries number user running at is none may = told (allowed (map.get machine.running number) at may)
+pub answered : LawOfAnswered
+answered entries number running is none may =
+    told running.command (subst (λ verdict. AllowsReply machine running verdict Done) none
+    (allowed (map.get machine.running number) is may))
   where
     machine : Machine
     machine = machine_from [] first_machine entries
-
-    change : Change
-    change = Created user (record { boot = machine.boot; index = running.index })
 
     allowed : (found : Option Running) → found ≡ Some running
         → IsSomeAnd found (λ r. AllowsReply machine r r.verdict Done)
@@ -143,12 +143,18 @@ created entries number user running at is none may = told (allowed (map.get mach
     allowed None e h = absurd h
     allowed (Some r) e h = let same : r ≡ running = cc in subst (λ r. AllowsReply machine r r.verdict Done) same h
 
-    told : AllowsReply machine running running.verdict Done → Contains (durable_changes machine) change
-    told allows =
-        let did = subst (DidWork (evidence_of machine) machine.boot running) is
-        (subst (λ verdict. AllowsReply machine running verdict Done) none allows) in
+    -- a logged change is durable where none of its user's is undurable
+    durable : (user : ℕ) (change : Change) → owner_of change ≡ user → Contains machine.log change
+        → NoChangeOf user (drop machine.kept machine.log) → Contains (durable_changes machine) change
+    durable user change mine logged all =
         elim (Contains-append_cases (durable_changes machine) (drop machine.kept machine.log) change
-        (subst (λ log. Contains log change) (sym (take-append-drop machine.kept machine.log)) did.0)) [
+        (subst (λ log. Contains log change) (sym (take-append-drop machine.kept machine.log)) logged)) [
           | inl there ↦ there
-          | inr behind ↦ absurd (another-change user (drop machine.kept machine.log) change did.1 behind refl)
+          | inr behind ↦ absurd (another-change user (drop machine.kept machine.log) change all behind mine)
         ]
+
+    told : (command : Command) → DidWork (evidence_of machine) machine.boot running command
+        → MadeDurably machine running command
+    told (Create user) did = durable user _ refl did.0 did.1
+    told (Protect user given fresh) did = (did.0.0, did.0.1, durable user _ refl did.0.2 did.1)
+    told command did = tt

@@ -1,13 +1,13 @@
 -- The numbers of a user's slots: the next one with a slot more, and that its slot is free.
 use Rattle.std.proofs.Common.{◌≡◌, ◌≢◌, ℕ, ◌+◌, ◌<◌, ◌≤◌, List, [], ◌∷◌, ◌++◌, length, get_or, take, cond, inl, inr}
-use Rattle.std.proofs.Common.{refl, sym, ap, ◌∙◌, subst, arith}
+use Rattle.std.proofs.Common.{refl, sym, ap, ◌∙◌, arith}
 use Rattle.std.specs.Prelude.{Some, None, Contains, max, map as map_list}
 use Rattle.std.specs.FinMap as map
 use Rattle.std.specs.FinMap.Entries.{find}
 use Rattle.std.proofs.lemmas.List.{map_more}
 use Rattle.std.proofs.lemmas.List.Elements.{Contains-push_cases, Contains-append_cases}
 use Rattle.tree_model.specs.declared.places.Slot.{Slot}
-use Rattle.tree_model.specs.declared.places.Slot.TheVariants.{Current, Cx}
+use Rattle.tree_model.specs.declared.places.Slot.TheVariants.{Cx}
 use Rattle.tree_model.specs.Order.{slot_cmp, slot_total, slot_exact}
 use Rattle.tree_model.proofs.Maps.{apart}
 use Rattle.journal_model.specs.Users.{Record, after_slot, next_number, next_slot}

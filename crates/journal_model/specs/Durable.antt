@@ -1,10 +1,12 @@
 -- Durable changes stay: in every later legal journal, and from the reply on that told of them.
-use Rattle.std.specs.Prelude.{◌≡◌, ℕ, ◌≤◌, List, ◌++◌, take, Some, None, Contains}
+use Rattle.std.specs.Prelude.{◌≡◌, ℕ, ◌≤◌, List, [], ◌∷◌, ◌++◌, take, Some, None, Contains}
 use Rattle.std.specs.FinMap as map
-use Rattle.journal_model.specs.declared.commands.Command.TheVariants.{Create}
+use Rattle.tree_model.specs.declared.places.Slot.{Slot}
+use Rattle.journal_model.specs.declared.commands.Command.{Command}
+use Rattle.journal_model.specs.declared.commands.Command.TheVariants.{Create, Protect}
 use Rattle.journal_model.specs.declared.commands.Reply.TheVariants.{Done}
 use Rattle.journal_model.specs.declared.entries.Change.{Change}
-use Rattle.journal_model.specs.declared.entries.Change.TheVariants.{Create as Created}
+use Rattle.journal_model.specs.declared.entries.Change.TheVariants.{Create as Created, Add as Added}
 use Rattle.journal_model.specs.declared.entries.Entry.{Entry}
 use Rattle.journal_model.specs.declared.entries.Entry.TheVariants.{Replied}
 use Rattle.journal_model.specs.Machine.{Machine, Running, machine_after, MayCome, IsLegal}
@@ -25,10 +27,17 @@ abbrev pub LawOfSurvival : Type 0
 LawOfSurvival = (entries more : List Entry) → IsLegal (entries ++ more)
     → Survive (machine_after entries) (machine_after (entries ++ more))
 
--- a create that was not refused and is told that it did its work has its change among the durable ones
-abbrev pub LawOfCreated : Type 0
-LawOfCreated = (entries : List Entry) (number user : ℕ) (running : Running) →
+-- the change of a command that makes one is among the durable ones
+abbrev pub MadeDurably : Machine → Running → Command → Type 0
+MadeDurably machine running (Create user) =
+    Contains (durable_changes machine) (Created user (record { boot = machine.boot; index = running.index }))
+MadeDurably machine running (Protect user given fresh) = (slot : Slot) × (running.changes ≡ Added user slot fresh ∷ [])
+    × Contains (durable_changes machine) (Added user slot fresh)
+MadeDurably machine running command = Unit {0}
+
+-- and so it is of a command that was not refused and is told that it did its work
+abbrev pub LawOfAnswered : Type 0
+LawOfAnswered = (entries : List Entry) (number : ℕ) (running : Running) →
     let machine = machine_after entries in
-    map.get machine.running number ≡ Some running → running.command ≡ Create user → running.verdict ≡ None
-    → MayCome entries machine (Replied number Done)
-    → Contains (durable_changes machine) (Created user (record { boot = machine.boot; index = running.index }))
+    map.get machine.running number ≡ Some running → running.verdict ≡ None
+    → MayCome entries machine (Replied number Done) → MadeDurably machine running running.command

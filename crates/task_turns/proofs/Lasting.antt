@@ -11,15 +11,16 @@ use Rattle.tree_model.specs.Dir.{Files}
 use Rattle.tree_model.specs.Named.{named_at}
 use Rattle.tree_model.specs.Parts.{Part}
 use Rattle.journal_model.specs.Made.{key_of, nonce_of, discardable_of}
+use Rattle.journal_model.specs.Users.{Record}
 use Rattle.keystore_model.specs.declared.entry.Tag.{Tag}
-use Rattle.user_world.specs.OwnWorlds.{own_view}
+use Rattle.user_world.specs.OwnWorlds.{own_view, own_record}
 use Rattle.user_world.specs.Facts.{Knows}
 use Rattle.user_world.proofs.Facts.{later-facts}
 use Rattle.key_directory.specs.Opened.{OpensTo}
+use Rattle.key_directory.proofs.Lasting.{fewer-match}
 use Rattle.key_directory.proofs.Opened.{kept-opening}
 use Rattle.task_turns.specs.Shares.{Share, ShareFact, Own, KeyFor, SealedFor, Same, Given, Drawn, Gave, NextSlot}
-use Rattle.task_turns.specs.Shares.{HasKey}
-use Rattle.task_turns.specs.Shares.{LeftToTry, Opens}
+use Rattle.task_turns.specs.Shares.{Right, HasKey, LeftToTry, Opens}
 use Rattle.task_turns.specs.Shares.{IsKeyFor, Has, AllHas, LaterShare, IsHeld, AreHeld, AreLeftToTry, IsFirstOpened}
 
 module _ (held : List Blob) (before after : Share) (later : LaterShare held before after) where
@@ -87,6 +88,9 @@ module _ (held : List Blob) (before after : Share) (later : LaterShare held befo
         opens-lasts has.present other dir secret None seen (has.newer other dir newer seen);
   }
 
+  known-lasts : (known : Record) → own_record before.own ≡ Some known → own_record after.own ≡ Some known
+  known-lasts known there = (later-facts (Knows (Some known) ∷ []) before.own after.own later.own (there, tt)).0
+
   fact-lasts : (fact : ShareFact) → IsHeld held fact → Has fact before → Has fact after
   fact-lasts (Own fact) is has = (later-facts (fact ∷ []) before.own after.own later.own (has, tt)).0
   fact-lasts (KeyFor blob app_id tag) is has = key-lasts blob app_id tag is has
@@ -102,10 +106,12 @@ module _ (held : List Blob) (before after : Share) (later : LaterShare held befo
     has.1 ∙ sym (ap (λ seed. discardable_of seed ForCe user made) later.seed),
   )
   fact-lasts (Gave user secret) is has = λ some. (later.attempts user).secrets secret (has some)
-  fact-lasts (NextSlot slot) is has = record {
+  fact-lasts (NextSlot slot) is has =
+      record { known = has.known; there = known-lasts has.known has.there; next = has.next }
+  fact-lasts (Right user secret) is has = record {
     known = has.known;
-    there = (later-facts (Knows (Some has.known) ∷ []) before.own after.own later.own (has.there, tt)).0;
-    next = has.next;
+    there = known-lasts has.known has.there;
+    under = λ sure. has.under (fewer-match _ _ (later.attempts user) sure);
   }
   fact-lasts (HasKey class there) is has = subst (λ keys. is_some (keys class) ≡ there) (sym later.keys) has
   fact-lasts (LeftToTry secret left) is has = left-to-try secret left has

@@ -11,7 +11,7 @@ use Rattle.tree_model.specs.Named.{PartNames}
 use Rattle.tree_model.specs.Order.{slot_cmp}
 use Rattle.journal_model.specs.declared.entries.Birth.{Birth}
 use Rattle.journal_model.specs.Made.{key_of, nonce_of, discardable_of}
-use Rattle.journal_model.specs.Users.{Record, next_slot}
+use Rattle.journal_model.specs.Users.{Record, HasSecret, next_slot}
 use Rattle.seal_model.specs.Sealed.{sealed_text}
 use Rattle.keystore_model.specs.declared.entry.StoreEntry.{StoreEntry}
 use Rattle.keystore_model.specs.declared.entry.Tag.{Tag}
@@ -19,7 +19,7 @@ use Rattle.keystore_model.specs.Store.{entry_of}
 use Rattle.user_world.specs.OwnWorlds.{OwnWorld, OwnImagesStand, own_view, own_record}
 use Rattle.user_world.specs.Facts.{Fact, Holds, Later}
 use Rattle.key_directory.specs.Opened.{AreCurrent, WasGiven, OpensTo, FitsFiles}
-use Rattle.key_directory.specs.Vaults.{Vault, Extends, KeepsEntry, sealed as sealed_in}
+use Rattle.key_directory.specs.Vaults.{Vault, NoChanceMatch, Extends, KeepsEntry, sealed as sealed_in}
 
 pub record Share : Type 0 where
   pub own : OwnWorld
@@ -45,6 +45,8 @@ pub data ShareFact : Type 0 where
   Gave : ℕ → List ℕ → ShareFact
   -- the slot that a further secret of the user comes into
   NextSlot : Slot → ShareFact
+  -- one of the user's slots is under this secret, where no tag matched by chance
+  Right : ℕ → List ℕ → ShareFact
   -- whether the user's key of this class is in the ring
   HasKey : Class → Bool → ShareFact
   -- of the user's slots these are left to try with a secret, and the key that the newest one opens to that opens
@@ -100,6 +102,12 @@ pub record IsNextSlot (share : Share) (slot : Slot) : Type 0 where
   pub there : own_record share.own ≡ Some known
   pub next : slot ≡ next_slot known
 
+-- the user is there, and where no tag matched by chance one of the user's slots is under the secret
+pub record IsUnder (share : Share) (user : ℕ) (secret : List ℕ) : Type 0 where
+  pub known : Record
+  pub there : own_record share.own ≡ Some known
+  pub under : NoChanceMatch (share.vault.attempts user) → HasSecret known secret
+
 abbrev pub Has : ShareFact → Share → Type 0
 Has (Own fact) share = Holds fact share.own
 Has (KeyFor blob app_id tag) share = IsKeyFor share.vault blob app_id tag
@@ -110,6 +118,7 @@ Has (Drawn nonce discard user made) share = (nonce ≡ nonce_of share.vault.seed
     × (discard ≡ discardable_of share.vault.seed ForCe user made)
 Has (Gave user secret) share = WasGiven (share.vault.attempts user) secret
 Has (NextSlot slot) share = IsNextSlot share slot
+Has (Right user secret) share = IsUnder share user secret
 Has (HasKey class there) share = is_some (share.keys class) ≡ there
 Has (LeftToTry secret left) share = AreLeftToTry share secret left
 Has (Opens secret key) share = IsFirstOpened share secret key
@@ -132,17 +141,9 @@ pub record LaterShare (held : List Blob) (before after : Share) : Type 0 where
 
 -- the blob that a fact speaks of is held
 abbrev pub IsHeld : List Blob → ShareFact → Type 0
-IsHeld held (Own fact) = Unit {0}
 IsHeld held (KeyFor blob app_id tag) = Contains held blob
 IsHeld held (SealedFor blob app_id tag nonce key sealed) = Contains held blob
-IsHeld held (Same a b) = Unit {0}
-IsHeld held (Given key class user birth) = Unit {0}
-IsHeld held (Drawn nonce discard user made) = Unit {0}
-IsHeld held (Gave user secret) = Unit {0}
-IsHeld held (NextSlot slot) = Unit {0}
-IsHeld held (HasKey class there) = Unit {0}
-IsHeld held (LeftToTry secret left) = Unit {0}
-IsHeld held (Opens secret key) = Unit {0}
+IsHeld held fact = Unit {0}
 
 abbrev pub AreHeld : List Blob → List ShareFact → Type 0
 AreHeld held [] = Unit {0}

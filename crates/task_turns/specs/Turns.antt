@@ -11,7 +11,10 @@ use Rattle.tree_model.specs.Tree.{user_of}
 use Rattle.key_ring.specs.Ring.{same_class}
 use Rattle.seal_model.specs.Sealed.{sealed_text}
 use Rattle.journal_model.specs.declared.commands.Actor.TheVariants.{User}
+use Rattle.journal_model.specs.declared.commands.Command.{Command}
+use Rattle.journal_model.specs.declared.commands.Command.TheVariants.{Unlock, Protect}
 use Rattle.journal_model.specs.declared.commands.Reply.{Reply}
+use Rattle.journal_model.specs.declared.commands.Reply.TheVariants.{Done as DoneReply}
 use Rattle.journal_model.specs.Command.{actor_of}
 use Rattle.journal_model.specs.Made.{key_of}
 use Rattle.journal_model.specs.Users.{Record}
@@ -41,7 +44,7 @@ use Rattle.task_turns.specs.declared.calls.Call.TheVariants.{Generate, Encrypt, 
 use Rattle.task_turns.specs.declared.next.Next.{Next}
 use Rattle.task_turns.specs.declared.next.Next.TheVariants.{Call as CallNext, Work as WorkNext, Reply as ReplyNext}
 use Rattle.task_turns.specs.Names.{Gains, BringsBlob}
-use Rattle.task_turns.specs.Shares.{Share, ShareFact, AllHas, AreHeld}
+use Rattle.task_turns.specs.Shares.{Share, ShareFact, IsUnder, AllHas, AreHeld}
 
 -- the blob has an entry of a key of the user's
 pub record IsOwned (entries : List StoreEntry) (user : ℕ) (blob : Blob) : Type 0 where
@@ -83,8 +86,7 @@ pub record Scene : Type 0 where
   pub share : Share
 
 -- what a type of tasks is: where each rests, which answers it may hear, what it is after one, and how many jobs it
--- asks
--- for at most before its next call or reply
+-- asks for at most before its next call or reply
 pub record Tasks (T : Type 0) : Type 1 where
   pub rest_of : T → Rest
   pub hears : T → Answer → Type 0
@@ -256,6 +258,22 @@ pub record IsGiven (share : Share) (user : ℕ) (class : Class) (key : List ℕ)
   pub there : own_record share.own ≡ Some known
   pub given : SureOf (share.vault.attempts user) class → key ≡ key_of share.vault.seed class user known.birth
 
+-- the secret that a command gives to open its user's key with, if it opens one
+abbrev pub opening_secret : Command → Option (List ℕ)
+opening_secret (Unlock user secret) = Some secret
+opening_secret (Protect user given fresh) = Some given
+opening_secret command = None
+
+-- where the command opens its user's key, it gave a right secret
+abbrev pub GaveRight : ℕ → Scene → Type 0
+GaveRight user scene = IfSome (opening_secret scene.began.command) (IsUnder scene.share user)
+
+-- the reply tells an unlock that its user's key was opened
+abbrev pub TellsOpened : Reply → Command → Type 0
+TellsOpened DoneReply (Unlock user secret) = Unit {0}
+TellsOpened DoneReply command = ⊥
+TellsOpened reply command = ⊥
+
 -- a key that the task's user was given comes into the ring
 pub record AddShows (seen : Seen) (scene : Scene) (owner : ℕ) (class : Class)
     (key : List ℕ) (change : Option LocalChange) : Type 0 where
@@ -263,6 +281,7 @@ pub record AddShows (seen : Seen) (scene : Scene) (owner : ℕ) (class : Class)
   pub mine : owner ≡ seen.now.user
   pub given : IsGiven scene.share seen.now.user class key
   pub may : Installs scene.began.command seen.now.user class
+  pub right : GaveRight seen.now.user scene
   pub held : (seen.then Done).held ≡ seen.now.held
   pub leads : Leads seen Done scene None no_cost (with_key scene.share class key)
 
@@ -302,13 +321,17 @@ evidence_in user share = record {
   recorded = λ owner known. (owner ≡ user) × (own_record share.own ≡ Some known);
 }
 
+-- the machine allows the change of the command
+pub record MayChange (user : ℕ) (scene : Scene) (local : LocalChange) : Type 0 where
+  pub allowed : AllowsChange (evidence_in user scene.share) scene.boot scene.began scene.began.command
+      (change_of user local)
+  pub right : GaveRight user scene
+
 -- what a task has to show of a call that it makes next
 pub record CallShows (seen : Seen) (scene : Scene) (call : Call)
     (change : Option LocalChange) : Type 0 where
   pub stands : CallStands seen scene call change
-  pub may : IfSome change (λ local.
-      AllowsChange (evidence_in seen.now.user scene.share) scene.boot scene.began scene.began.command
-      (change_of seen.now.user local))
+  pub may : IfSome change (MayChange seen.now.user scene)
   -- and where the call fails, it is told so in one more turn
   pub lasts : 1 < seen.now.left
 
@@ -321,6 +344,7 @@ pub record WorkShows (seen : Seen) (scene : Scene) (job : Job) : Type 0 where
 pub record ReplyShows (seen : Seen) (scene : Scene) (reply : Reply) : Type 0 where
   pub outcome : kind_of_reply reply ≡ Outcome
   pub may : AllowsOutcome (evidence_in seen.now.user scene.share) scene.boot scene.began reply
+  pub right : TellsOpened reply scene.began.command → GaveRight seen.now.user scene
   pub lasts : 0 < seen.now.left
   pub held : seen.now.held ≡ []
 

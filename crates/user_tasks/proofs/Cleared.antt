@@ -3,10 +3,9 @@ use Rattle.std.proofs.Common.{◌≡◌, true, List, [], ◌∷◌, ◌++◌, re
 use Rattle.std.specs.Prelude.{Option, Some, None, is_some, IfSome}
 use Rattle.tree_model.specs.declared.blobs.Blob.{Blob}
 use Rattle.tree_model.specs.Dir.{Files}
-use Rattle.journal_model.specs.Machine.{AllowsChange, AllowsOutcome}
+use Rattle.journal_model.specs.Machine.{AllowsOutcome}
 use Rattle.step_core.specs.Jobs.{output_of}
 use Rattle.user_world.specs.declared.changes.LocalChange.{LocalChange}
-use Rattle.user_world.specs.Changes.{change_of}
 use Rattle.user_world.specs.Turns.{with_note}
 use Rattle.task_turns.specs.declared.calls.Answer.{Answer}
 use Rattle.task_turns.specs.declared.calls.Answer.TheVariants.{Done, Directory, Blob as IsBlob, Sealed, Decrypted}
@@ -16,7 +15,8 @@ use Rattle.task_turns.specs.declared.calls.Call.TheVariants.{Generate, Encrypt, 
 use Rattle.task_turns.specs.declared.next.Next.{Next}
 use Rattle.task_turns.specs.declared.next.Next.TheVariants.{Call as CallNext, Work as WorkNext, Reply as ReplyNext}
 use Rattle.task_turns.specs.Shares.{Share}
-use Rattle.task_turns.specs.Turns.{seen_of, Tasks, Scene, Cost, Leads, TurnShows, evidence_in}
+use Rattle.task_turns.specs.Turns.{seen_of, Tasks, Scene, Cost, Leads, TurnShows, evidence_in, GaveRight}
+use Rattle.task_turns.specs.Turns.{TellsOpened, MayChange}
 use Rattle.store_task.specs.declared.stages.Stage.TheVariants.{First}
 use Rattle.store_task.specs.Task.{Task, IsAnswer, AnswersStage}
 use Rattle.user_tasks.proofs.Writing.{leads-to}
@@ -77,12 +77,9 @@ module _ {T : Type 0} (tasks : Tasks T) (clearing storing : T) (store : Task)
       ∙ ap (λ blobs. blobs ++ gains) (cleared.held ∙ sym cleared.none)
 
   may-cleared : (change : Option LocalChange)
-      → IfSome change (λ local. AllowsChange (evidence_in (tasks.rest_of storing).user scene.share) scene.boot
-      scene.began scene.began.command (change_of (tasks.rest_of storing).user local))
-      → IfSome change (λ local. AllowsChange (evidence_in (tasks.rest_of clearing).user scene.share) scene.boot
-      scene.began scene.began.command (change_of (tasks.rest_of clearing).user local))
-  may-cleared change may = subst (λ user. IfSome change (λ local. AllowsChange (evidence_in user scene.share)
-      scene.boot scene.began scene.began.command (change_of user local))) (sym cleared.user) may
+      → IfSome change (MayChange (tasks.rest_of storing).user scene)
+      → IfSome change (MayChange (tasks.rest_of clearing).user scene)
+  may-cleared change may = subst (λ user. IfSome change (MayChange user scene)) (sym cleared.user) may
 
   done-cleared : tasks.hears storing Done → ⊥
   done-cleared heard = not-done store cleared.first (cleared.hears Done heard)
@@ -125,6 +122,7 @@ module _ {T : Type 0} (tasks : Tasks T) (clearing storing : T) (store : Task)
     outcome = shows.outcome;
     may = subst (λ user. AllowsOutcome (evidence_in user scene.share) scene.boot scene.began reply) (sym cleared.user)
         shows.may;
+    right = subst (λ user. TellsOpened reply scene.began.command → GaveRight user scene) (sym cleared.user) shows.right;
     lasts = omega (arith, shows.lasts, cleared.left);
     held = cleared.none;
   }

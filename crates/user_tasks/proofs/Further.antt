@@ -40,8 +40,8 @@ use Rattle.key_directory.proofs.Opened.{slots-tell}
 use Rattle.task_turns.specs.declared.calls.Answer.TheVariants.{Done}
 use Rattle.task_turns.specs.declared.calls.Call.TheVariants.{Op as OpCall}
 use Rattle.task_turns.specs.Names.{Gains}
-use Rattle.task_turns.specs.Shares.{Has, AllHas}
-use Rattle.task_turns.specs.Turns.{seen_of, Scene, noting, CallShows, evidence_in}
+use Rattle.task_turns.specs.Shares.{Has, AllHas, IsSound, IsUnder}
+use Rattle.task_turns.specs.Turns.{seen_of, Scene, noting, CallShows, evidence_in, opening_secret}
 use Rattle.open_task.specs.Task.{Opening}
 use Rattle.store_task.specs.declared.turns.StoreSpec.{StoreSpec}
 use Rattle.store_task.specs.declared.stages.Stage.TheVariants.{Storing as StoringStage}
@@ -53,6 +53,7 @@ use Rattle.user_tasks.specs.declared.protects.ProtectStage.TheVariants.{Storing}
 use Rattle.user_tasks.specs.declared.tasks.UserTask.TheVariants.{Protect as OfProtect}
 use Rattle.user_tasks.specs.Protect.{Protecting, IsProtecting, serves_with, slot_at, protect_rest}
 use Rattle.user_tasks.specs.Tasks.{tasks}
+use Rattle.user_tasks.proofs.Openings.{under-first}
 use Rattle.user_tasks.proofs.AsideOps.{lets-all}
 use Rattle.user_tasks.proofs.Placing.{held-brings}
 use Rattle.user_tasks.proofs.Writing.{leads-to}
@@ -143,7 +144,8 @@ module _ (made : Birth) (opening : Opening) (spec : StoreSpec) (job : ℕ) (blob
   sealed-text None bound has some = has
   sealed-text (Some named) bound has some = absurd (some bound.0)
 
-  module _ (is : IsProtecting adding) (has : AllHas (protect_rest adding).facts scene.share)
+  module _ (sound : IsSound opening.user scene.share) (is : IsProtecting adding)
+      (has : AllHas (protect_rest adding).facts scene.share)
       (serves : serves_with adding [] scene.boot scene.began)
       (unnamed : (named : Blob) → Contains (held_by blob) named → ¬ (PartNames (own_view own) named)) where
     abbrev known : Record
@@ -260,14 +262,20 @@ module _ (made : Birth) (opening : Opening) (spec : StoreSpec) (job : ℕ) (blob
           draws = omega arith;
         });
       };
-      may = subst (λ command. AllowsChange (evidence_in opening.user scene.share) scene.boot scene.began command
-          (AddChange opening.user slot spec.secret)) (sym serves.command) (
-            serves.changes,
-            (
-              known,
-              (refl, has.1.0.there),
-              ap (λ s. AddChange opening.user s spec.secret) has.1.0.next,
-            ),
-          );
+      may = record {
+        allowed = subst (λ command. AllowsChange (evidence_in opening.user scene.share) scene.boot scene.began command
+            (AddChange opening.user slot spec.secret)) (sym serves.command) (
+              serves.changes,
+              (
+                known,
+                (refl, has.1.0.there),
+                ap (λ s. AddChange opening.user s spec.secret) has.1.0.next,
+              ),
+            );
+        right = subst (λ command. IfSome (opening_secret command) (IsUnder scene.share opening.user))
+            (sym serves.command)
+            (under-first opening.user scene.share sound has.0.present opening.secret spec.key has.0
+            has.1.1.1.0);
+      };
       lasts = omega arith;
     }

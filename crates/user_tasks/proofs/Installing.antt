@@ -18,6 +18,7 @@ use Rattle.user_tasks.specs.declared.creates.Stage.{Stage}
 use Rattle.user_tasks.specs.declared.creates.Stage.TheVariants.{Created, InstallingDe, InstallingCe, Ended}
 use Rattle.user_tasks.specs.Create.{Creating, IsCreating, IsCreate, new_record, changes_at, creates}
 use Rattle.user_tasks.specs.Tasks.{UserTurns}
+use Rattle.user_tasks.proofs.NewUsers.{gave-none}
 use Rattle.user_tasks.proofs.CreateTurns.{at-stage}
 use Rattle.user_tasks.proofs.Writing.{leads-to}
 use Rattle.user_tasks.specs.declared.tasks.UserTask.TheVariants.{Create as OfCreate}
@@ -79,6 +80,7 @@ module _ (create : Creating) (is : IsCreating create) (way : Option Site) where
             given = λ sure. rests.facts.1.1.0;
           };
           may = subst (λ command. Installs command create.user ForDe) (sym rests.serves.command) refl;
+          right = gave-none scene create.user rests.serves.command;
           held = refl;
           leads = leads-to creates (staged create InstallingDe) Done refl refl refl (record {
             facts = (
@@ -116,6 +118,7 @@ module _ (create : Creating) (is : IsCreating create) (way : Option Site) where
             given = λ sure. rests.facts.1.1.1.0;
           };
           may = subst (λ command. Installs command create.user ForCe) (sym rests.serves.command) refl;
+          right = gave-none scene create.user rests.serves.command;
           held = refl;
           leads = leads-to creates (staged create InstallingCe) Done refl refl refl (record {
             facts = (rests.facts.0, (rests.facts.1.1.1.1.0, (rests.facts.1.1.1.1.1.0, (refl, tt))));
@@ -143,6 +146,7 @@ module _ (create : Creating) (is : IsCreating create) (way : Option Site) where
               (refl, rests.facts.1.1.0),
               (refl, rests.facts.1.1.1.0),
             );
+        right = λ opened. gave-none scene create.user rests.serves.command;
         lasts = omega arith;
         held = refl;
       })

@@ -1,6 +1,6 @@
 -- Each turn of a lock shows what it has to.
 use Rattle.std.proofs.Common.{◌≡◌, refl, sym, subst, arith}
-use Rattle.std.specs.Prelude.{Option}
+use Rattle.std.specs.Prelude.{Option, IfSome}
 use Rattle.tree_model.specs.declared.places.Class.TheVariants.{Ce as ForCe}
 use Rattle.tree_model.specs.declared.sites.Site.{Site}
 use Rattle.journal_model.specs.declared.commands.Reply.TheVariants.{Done as DoneReply}
@@ -8,7 +8,8 @@ use Rattle.journal_model.specs.Machine.{DidWork, Evicts}
 use Rattle.task_turns.specs.declared.calls.Call.TheVariants.{Remove}
 use Rattle.task_turns.specs.declared.next.Next.{Next}
 use Rattle.task_turns.specs.declared.next.Next.TheVariants.{Reply as ReplyNext}
-use Rattle.task_turns.specs.Turns.{evidence_in, Asks, seen_of}
+use Rattle.task_turns.specs.Shares.{IsUnder}
+use Rattle.task_turns.specs.Turns.{evidence_in, opening_secret, TellsOpened, Asks, seen_of}
 use Rattle.user_tasks.specs.declared.locks.Lock.{Lock}
 use Rattle.user_tasks.specs.declared.locks.LockStage.{LockStage}
 use Rattle.user_tasks.specs.declared.locks.LockStage.TheVariants.{Evicting, Ended}
@@ -54,6 +55,8 @@ module _ (lock : Lock) where
         outcome = refl;
         may = subst (DidWork (evidence_in lock.user scene.share) scene.boot scene.began) (sym rests.serves.command)
             (refl, rests.facts.0);
+        right = subst (λ command. TellsOpened DoneReply command → IfSome (opening_secret command)
+            (IsUnder scene.share lock.user)) (sym rests.serves.command) (λ opened. absurd opened);
         lasts = omega arith;
         held = refl;
       })

@@ -18,7 +18,7 @@ use Rattle.key_directory.specs.Vaults.{sealed, SealedStands}
 use Rattle.key_directory.proofs.Opened.{slots-tell, wrong-secret}
 use Rattle.task_turns.specs.declared.calls.Answer.{Answer}
 use Rattle.task_turns.specs.declared.calls.Answer.TheVariants.{Output, Directory, Decrypted}
-use Rattle.task_turns.specs.Shares.{Share, AreHeld, IsSound, IsFirstOpened, AreLeftToTry}
+use Rattle.task_turns.specs.Shares.{Share, AreHeld, IsSound, IsUnder, IsFirstOpened, AreLeftToTry}
 use Rattle.task_turns.specs.Turns.{Tasks, Scene, Leads, IsGiven, TurnShows, evidence_in, seen_of, no_cost}
 use Rattle.open_task.specs.declared.stages.Doing.{Doing}
 use Rattle.open_task.specs.declared.stages.Doing.TheVariants.{Read, Work, Decrypt}
@@ -130,6 +130,19 @@ module _ (user : ℕ) (share : Share) (sound : IsSound user share) (present : Is
     given = λ sure.
         (slots-tell share.vault user (own_view share.own) is.known opened.slot opened.files secret is.stands
         opened.there).right sure gave key opened.opens.opens_to;
+  }
+
+  -- and the secret is a right one
+  pub under-first : (secret key : List ℕ) → IsFirstOpened share secret key
+      → WasGiven (share.vault.attempts user) secret → IsUnder share user secret
+  under-first secret key opened gave = let is = known-user in record {
+    known = is.known;
+    there = is.there;
+    under = λ sure. record {
+      slot = opened.slot;
+      under = (slots-tell share.vault user (own_view share.own) is.known opened.slot opened.files secret is.stands
+          opened.there).under sure gave key opened.opens.opens_to;
+    };
   }
 
   -- where none is left to try, the secret is a wrong one

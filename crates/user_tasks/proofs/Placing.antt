@@ -41,7 +41,7 @@ use Rattle.user_tasks.specs.Create.{Creating, Stores, IsCreate, create_rest, cre
 use Rattle.user_tasks.specs.Stores.{part}
 use Rattle.blob_custody.proofs.Steps.{lets-none}
 use Rattle.user_tasks.proofs.AsideOps.{absent-gains, lets-all}
-use Rattle.user_tasks.proofs.NewUsers.{sealing-tried, IsKept, keeps-born, born-gains}
+use Rattle.user_tasks.proofs.NewUsers.{sealing-tried, IsKept, keeps-born, born-gains, gave-none}
 use Rattle.user_tasks.proofs.Whole.{same-parts, always-here}
 use Rattle.user_tasks.proofs.Writing.{leads-to}
 
@@ -259,7 +259,10 @@ module _ (user : ℕ) (birth : Birth) (ce_spec de_spec : StoreSpec) (ce_job de_j
             draws = omega arith;
           });
         };
-        may = subst (λ command. AllowsChange (evidence_in user scene.share) scene.boot scene.began command
-            (CreateChange user birth)) (sym serves.command) (serves.changes, ap (CreateChange user) serves.born);
+        may = record {
+          allowed = subst (λ command. AllowsChange (evidence_in user scene.share) scene.boot scene.began command
+              (CreateChange user birth)) (sym serves.command) (serves.changes, ap (CreateChange user) serves.born);
+          right = gave-none scene user serves.command;
+        };
         lasts = omega arith;
       }

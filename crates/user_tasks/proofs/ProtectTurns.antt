@@ -1,6 +1,6 @@
 -- Each turn of a protect shows what it has to, asks for no more jobs than it says, and for those of its own numbers.
 use Rattle.std.proofs.Common.{◌≡◌, ◌≢◌, ℕ, ◌*◌, ◌<◌, List, [], ◌∷◌, refl, sym, ap, ◌∙◌, subst, arith, inl, inr}
-use Rattle.std.specs.Prelude.{Option, Some, None, IsSome, Ok, Contains}
+use Rattle.std.specs.Prelude.{Option, Some, None, IfSome, IsSome, Ok, Contains}
 use Rattle.std.specs.FinMap as map
 use Rattle.tree_model.specs.declared.blobs.Blob.{Blob}
 use Rattle.tree_model.specs.declared.ops.Fill.TheVariants.{Same}
@@ -39,9 +39,9 @@ use Rattle.task_turns.specs.declared.calls.Answer.TheVariants.{Done, Output}
 use Rattle.task_turns.specs.declared.calls.Call.TheVariants.{Op as OpCall, Sync as SyncCall}
 use Rattle.task_turns.specs.declared.next.Next.{Next}
 use Rattle.task_turns.specs.declared.next.Next.TheVariants.{Call as CallNext, Work as WorkNext, Reply as ReplyNext}
-use Rattle.task_turns.specs.Shares.{Share, AllHas, IsSound, IsFirstOpened, IsNextSlot}
+use Rattle.task_turns.specs.Shares.{Share, AllHas, IsSound, IsUnder, IsFirstOpened, IsNextSlot}
 use Rattle.task_turns.specs.Turns.{Seen, Scene, Rests, Asks, AsksFor, CallShows, TurnShows, operated, seen_of}
-use Rattle.task_turns.specs.Turns.{evidence_in, no_cost}
+use Rattle.task_turns.specs.Turns.{evidence_in, opening_secret, TellsOpened, no_cost}
 use Rattle.open_task.specs.declared.stages.Doing.{Doing}
 use Rattle.open_task.specs.declared.stages.Doing.TheVariants.{Read, Work, Decrypt}
 use Rattle.open_task.specs.declared.stages.Stage.TheVariants.{Reading}
@@ -230,6 +230,7 @@ module _ (protect : Protecting) where
             serves.changes,
             gave-wrong owner scene.share sound tried.0.present protect.opening.secret tried.0,
           );
+          right = λ opened. absurd opened;
           lasts = omega arith;
           held = refl;
         }
@@ -263,7 +264,8 @@ module _ (protect : Protecting) where
 
   -- the directory is stored: it is renamed into its slot, by a task that is so far
   abbrev Puts : Task → Type 0
-  Puts store = (scene : Scene) → IsProtecting (record (staged Storing) { store = store })
+  Puts store = (scene : Scene) → IsSound owner scene.share
+      → IsProtecting (record (staged Storing) { store = store })
       → AllHas (protect_rest (record (staged Storing) { store = store })).facts scene.share
       → serves_with (record protect { store = store }) [] scene.boot scene.began
       → ((named : Blob) → Contains (held_of store) named → ¬ (PartNames (own_view scene.share.own) named))
@@ -277,8 +279,8 @@ module _ (protect : Protecting) where
   puts store settled =
       let at = settled-stage store.stage settled in
       subst (λ stage. Puts (record store { stage = stage })) (sym at.2)
-      (λ scene is has serves unnamed. adds protect.made protect.opening store.spec store.job at.0 at.1 scene is has
-      serves unnamed)
+      (λ scene sound is has serves unnamed. adds protect.made protect.opening store.spec store.job at.0 at.1 scene sound
+      is has serves unnamed)
 
   framed : protect.store.spec.tag ≡ record { user = owner; class = ForCe }
       → IsFramed tasks (OfProtect (staged Storing)) (store_frame protect) protect.store
@@ -294,7 +296,7 @@ module _ (protect : Protecting) where
     behind = omega arith;
   }
 
-  module _ (scene : Scene) (is : IsProtecting (staged Storing))
+  module _ (scene : Scene) (sound : IsSound owner scene.share) (is : IsProtecting (staged Storing))
       (has : AllHas (protect_rest (staged Storing)).facts scene.share)
       (serves : serves_with protect [] scene.boot scene.began)
       (unnamed : (named : Blob) → Contains (held_of protect.store) named
@@ -306,7 +308,7 @@ module _ (protect : Protecting) where
         let renames : op ≡ RenameDir Temp (Ce (slot_of protect)) =
         in_place.renames ∙ ap (λ place. RenameDir Temp (site_of place)) is.placed in
         subst (λ o. TurnShows (seen_at Storing) scene (op_turn owner o named (Some (change_by protect)))) (sym renames)
-        (puts protect.store in_place.synced scene is has serves unnamed named
+        (puts protect.store in_place.synced scene sound is has serves unnamed named
         (subst (TreeShows protect.store scene.share) renames shows) holds)
 
     stores : (next : Next) → IsStoreTurn owner protect.store (Some (change_by protect)) next
@@ -448,13 +450,13 @@ module _ (protect : Protecting) (way : Option Site) where
       turn = λ scene sound finds rests.
           as-cleared tasks (OfProtect (staged protect Clearing)) (OfProtect (staged protect Storing)) protect.store
           (cleared protect is.stage) scene next
-          (stores protect scene (begun-fits protect is) (begun scene sound finds rests) rests.serves (held-none scene)
+          (stores protect scene sound (begun-fits protect is) (begun scene sound finds rests) rests.serves (held-none scene)
           next turn);
       asks = store-asks tasks (OfProtect (staged protect Clearing)) protect.store (clearing-asks protect) {E = Next}
           protect.opening.user (Some (change_by protect)) (Ok next) turn;
       jobs = λ scene sound finds rests. stored-job (staged protect Clearing) next
           (store-job protect.opening.user protect.store (Some (change_by protect)) scene.share next
-          (stored-has protect scene (begun-fits protect is) (begun scene sound finds rests) rests.serves
+          (stored-has protect scene sound (begun-fits protect is) (begun scene sound finds rests) rests.serves
           (held-none scene)) turn);
     }
       where
@@ -473,12 +475,12 @@ module _ (protect : Protecting) (way : Option Site) where
     pub stored-shown : IsProtecting (staged protect Storing) → Shows (staged protect Storing) way next
     stored-shown is = record {
       turn = λ scene sound finds rests.
-          stores protect scene is rests.facts rests.serves finds.unnamed next turn;
+          stores protect scene sound is rests.facts rests.serves finds.unnamed next turn;
       asks = store-asks tasks (OfProtect (staged protect Storing)) protect.store (storing-asks protect) {E = Next}
           protect.opening.user (Some (change_by protect)) (Ok next) turn;
       jobs = λ scene sound finds rests. stored-job (staged protect Storing) next
           (store-job protect.opening.user protect.store (Some (change_by protect)) scene.share next
-          (stored-has protect scene is rests.facts rests.serves finds.unnamed) turn);
+          (stored-has protect scene sound is rests.facts rests.serves finds.unnamed) turn);
     }
 
   -- the sync behind the rename, and the reply
@@ -517,6 +519,8 @@ module _ (protect : Protecting) (way : Option Site) where
             (slot_of protect, rests.serves.changes, (refl, rests.facts.0)),
             (refl, rests.facts.1.0),
           );
+      right = subst (λ command. TellsOpened DoneReply command → IfSome (opening_secret command)
+          (IsUnder scene.share protect.opening.user)) (sym rests.serves.command) (λ opened. absurd opened);
       lasts = omega arith;
       held = refl;
     };

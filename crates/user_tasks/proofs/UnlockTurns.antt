@@ -1,6 +1,6 @@
 -- Each turn of an unlock shows what it has to.
 use Rattle.std.proofs.Common.{◌≡◌, ◌<◌, ℕ, List, [], refl, sym, ap, ◌∙◌, subst, arith}
-use Rattle.std.specs.Prelude.{Bool, true, false, Option, Some, None}
+use Rattle.std.specs.Prelude.{Bool, true, false, Option, Some, None, IfSome}
 use Rattle.tree_model.specs.declared.places.Class.TheVariants.{Ce as ForCe}
 use Rattle.tree_model.specs.declared.places.Slot.{Slot}
 use Rattle.tree_model.specs.declared.sites.Site.{Site}
@@ -11,8 +11,8 @@ use Rattle.task_turns.specs.declared.calls.Answer.{Answer}
 use Rattle.task_turns.specs.declared.calls.Answer.TheVariants.{Done, Output}
 use Rattle.task_turns.specs.declared.next.Next.{Next}
 use Rattle.task_turns.specs.declared.next.Next.TheVariants.{Reply as ReplyNext}
-use Rattle.task_turns.specs.Shares.{AllHas}
-use Rattle.task_turns.specs.Turns.{Scene, Rests, Leads, Asks, TurnShows, evidence_in, seen_of, no_cost}
+use Rattle.task_turns.specs.Shares.{AllHas, IsSound, IsUnder}
+use Rattle.task_turns.specs.Turns.{Scene, Rests, Leads, Asks, TurnShows, evidence_in, opening_secret, seen_of, no_cost}
 use Rattle.open_task.specs.declared.stages.Doing.{Doing}
 use Rattle.open_task.specs.declared.stages.Doing.TheVariants.{Read, Work, Decrypt}
 use Rattle.open_task.specs.declared.stages.Stage.{Stage}
@@ -25,7 +25,7 @@ use Rattle.user_tasks.specs.Tasks.{UserTurns, UserJobs, tasks, rest_of}
 use Rattle.user_tasks.specs.Unlock.{rest_at, unlock_rest, after_with, hears_with, opening_turn}
 use Rattle.user_tasks.specs.Unlock.{ending_turn, facts_at, asks_of}
 use Rattle.user_tasks.proofs.Openings.{holds-none, no-key, asked-key, some-key, none-left, opening-shows, given-first}
-use Rattle.user_tasks.proofs.Openings.{gave-wrong}
+use Rattle.user_tasks.proofs.Openings.{under-first, gave-wrong}
 use Rattle.user_tasks.proofs.Writing.{leads-to}
 
 module _ (unlock : Unlock) (still : unlock.installed ≡ false) where
@@ -81,10 +81,18 @@ module _ (unlock : Unlock) (still : unlock.installed ≡ false) where
   abbrev opened_with : List ℕ → Unlock
   opened_with key = record unlock { opening = record unlock.opening { stage = Opened key }; installed = false }
 
+  -- the secret is a right one
+  under : (key : List ℕ) (scene : Scene) → IsSound unlock.opening.user scene.share
+      → AllHas (unlock_rest (opened_with key)).facts scene.share
+      → IsUnder scene.share unlock.opening.user unlock.opening.secret
+  under key scene sound facts = under-first unlock.opening.user scene.share sound facts.1.0.present
+      unlock.opening.secret key facts.1.0 facts.0
+
   -- the key comes into the ring
   adds : (key : List ℕ) (site : Option Site)
       → UserTurns (OfUnlock (opened_with key)) site (ending_turn unlock.opening.user (Some key))
   adds key site = λ scene sound clear rests.
+      let is = under key scene sound rests.facts in
       record {
         stands = record {
           quiet = refl;
@@ -92,10 +100,12 @@ module _ (unlock : Unlock) (still : unlock.installed ≡ false) where
           given = given-first unlock.opening.user scene.share sound rests.facts.1.0.present unlock.opening.secret key
               rests.facts.1.0 rests.facts.0;
           may = subst (λ command. Installs command unlock.opening.user ForCe) (sym rests.serves.command) (refl, refl);
+          right = subst (λ command. IfSome (opening_secret command) (IsUnder scene.share unlock.opening.user))
+              (sym rests.serves.command) is;
           held = refl;
           leads = leads-to tasks (OfUnlock (opened_with key)) Done refl refl refl (record {
-            facts = (refl, tt);
-            known = (tt, tt);
+            facts = (refl, (record { known = is.known; there = is.there; under = is.under }, tt));
+            known = (tt, (tt, tt));
             serves = record { command = rests.serves.command };
             same_user = refl;
             falls = omega arith;
@@ -118,6 +128,7 @@ module _ (unlock : Unlock) (still : unlock.installed ≡ false) where
         (sym rests.serves.command)
         (gave-wrong unlock.opening.user scene.share sound rests.facts.1.0.present unlock.opening.secret
         rests.facts.1.0);
+    right = λ opened. absurd opened;
     lasts = omega arith;
     held = refl;
   }
@@ -158,6 +169,8 @@ done-turn unlock installed site =
       outcome = refl;
       may = subst (DidWork (evidence_in unlock.opening.user scene.share) scene.boot scene.began)
           (sym rests.serves.command) (refl, rests.facts.0);
+      right = λ opened. subst (λ command. IfSome (opening_secret command) (IsUnder scene.share unlock.opening.user))
+          (sym rests.serves.command) rests.facts.1.0;
       lasts = omega arith;
       held = refl;
     })

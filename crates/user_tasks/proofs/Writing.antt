@@ -24,8 +24,7 @@ use Rattle.task_turns.specs.declared.calls.Answer.{Answer}
 use Rattle.task_turns.specs.declared.calls.Answer.TheVariants.{Done, Blob as IsBlob, Sealed, Output}
 use Rattle.task_turns.specs.declared.calls.Call.TheVariants.{Op as OpCall, Sync as SyncCall}
 use Rattle.task_turns.specs.Shares.{Share, ShareFact, AllHas, LaterShare, IsHeld, AreHeld}
-use Rattle.task_turns.specs.Shares.{Own, KeyFor, SealedFor, Same, Given, Drawn, Gave, NextSlot, HasKey, LeftToTry}
-use Rattle.task_turns.specs.Shares.{Opens}
+use Rattle.task_turns.specs.Shares.{KeyFor, SealedFor}
 use Rattle.task_turns.specs.Turns.{seen_of, Rest, Tasks, Scene, Cost, no_cost, operated, synced, with_entry, Leads}
 use Rattle.task_turns.specs.Turns.{CallShows, GenerateShows, EncryptShows, WorkShows, TurnShows}
 use Rattle.task_turns.proofs.Lasting.{facts-last}
@@ -65,17 +64,9 @@ has-rest (fact ∷ facts) more share has = has-rest facts more share has.1
 -- the blobs of facts are held among more blobs
 held-fact : (held more : List Blob) → ((blob : Blob) → Contains held blob → Contains more blob)
     → (fact : ShareFact) → IsHeld held fact → IsHeld more fact
-held-fact held more among (Own fact) is = tt
 held-fact held more among (KeyFor blob app_id tag) is = among blob is
 held-fact held more among (SealedFor blob app_id tag nonce key text) is = among blob is
-held-fact held more among (Same a b) is = tt
-held-fact held more among (Given key class user birth) is = tt
-held-fact held more among (Drawn nonce discard user made) is = tt
-held-fact held more among (Gave user secret) is = tt
-held-fact held more among (NextSlot slot) is = tt
-held-fact held more among (HasKey class there) is = tt
-held-fact held more among (LeftToTry secret left) is = tt
-held-fact held more among (Opens secret key) is = tt
+held-fact held more among fact is = is
 
 held-more : (held more : List Blob) → ((blob : Blob) → Contains held blob → Contains more blob)
     → (facts : List ShareFact) → AreHeld held facts → AreHeld more facts

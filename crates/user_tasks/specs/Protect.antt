@@ -186,8 +186,7 @@ abbrev pub hears : Protecting → Answer → Type 0
 hears protect answer = hears_at protect.stage protect answer
 
 -- how many jobs it asks for at most before its next call or reply: the task that stores the key asks for one in the
--- turn
--- in which the key was opened by a job
+-- turn in which a job opened the key
 abbrev pub asks_at : ProtectStage → Protecting → ℕ
 asks_at IsOpening protect = 2 * open_asks protect.opening
 asks_at Clearing protect = store_asks protect.store

@@ -11,7 +11,7 @@ use Rattle.task_turns.specs.declared.calls.Answer.TheVariants.{Done}
 use Rattle.task_turns.specs.declared.calls.Call.TheVariants.{Read as ReadCall, Decrypt as DecryptCall, Add}
 use Rattle.task_turns.specs.declared.next.Next.{Next}
 use Rattle.task_turns.specs.declared.next.Next.TheVariants.{Work as WorkNext, Reply as ReplyNext}
-use Rattle.task_turns.specs.Shares.{ShareFact, Gave, HasKey}
+use Rattle.task_turns.specs.Shares.{ShareFact, Gave, Right, HasKey}
 use Rattle.task_turns.specs.Turns.{Rest}
 use Rattle.open_task.specs.declared.stages.Doing.{Doing}
 use Rattle.open_task.specs.declared.stages.Doing.TheVariants.{Read, Work, Decrypt}
@@ -31,10 +31,10 @@ first_unlock user slots secret job = record {
 pub record IsUnlock (user : ℕ) (secret : List ℕ) (boot : ℕ) (began : Began) : Type 0 where
   pub command : began.command ≡ UnlockCommand user secret
 
--- in the end the credential key is in the ring
+-- in the end the credential key is in the ring, and the secret was a right one
 abbrev pub facts_at : Bool → Opening → List ShareFact
 facts_at false opening = Gave opening.user opening.secret ∷ open_facts opening
-facts_at true opening = HasKey ForCe true ∷ []
+facts_at true opening = HasKey ForCe true ∷ Right opening.user opening.secret ∷ []
 
 abbrev pub left_at : Bool → Opening → ℕ
 left_at false opening = open_left opening + 2

@@ -36,6 +36,7 @@ pub mod Sizes
 pub mod Small
 pub mod Called
 pub mod Isolated
+pub mod RightSecrets
 pub mod Went
 pub mod Books
 pub mod Machines

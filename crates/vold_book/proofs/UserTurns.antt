@@ -52,7 +52,7 @@ use Rattle.task_turns.specs.declared.calls.Call.{Call}
 use Rattle.task_turns.specs.Shares.{AllHas, AreHeld}
 use Rattle.task_turns.specs.Turns.{seen_of, Rests, AllOwned, Scene, Leads, cost_of, OpShows, SyncShows, GenerateShows}
 use Rattle.task_turns.specs.Turns.{EncryptShows, DecryptShows, ReadShows, AddShows, RemoveShows, no_cost}
-use Rattle.task_turns.specs.Turns.{operated, noting, evidence_in, IsOwned, BlobShows, CallShows}
+use Rattle.task_turns.specs.Turns.{operated, noting, IsOwned, BlobShows, MayChange, CallShows}
 use Rattle.task_turns.specs.declared.calls.Answer.TheVariants.{Done, Directory, Blob as IsBlob, Sealed, Decrypted}
 use Rattle.task_turns.specs.declared.calls.Call.TheVariants.{Op as OpCall, Sync, Generate, Encrypt, Decrypt}
 use Rattle.task_turns.specs.declared.calls.Call.TheVariants.{List as ListCall, Read, Entries, Add, Remove}
@@ -452,8 +452,7 @@ module _ (book : Plain) (actor : Actor) (number : ℕ) (task : UserTask) (whole 
         ∙ get-insert_other nat_cmp_total nat_cmp-IsAntisymmetric machine.running number _ n differ
 
     abbrev MayNote : Option LocalChange → Type 0
-    MayNote change = IfSome change (λ local. AllowsChange (evidence_in user scene.share) machine.boot on.began
-        on.began.command (change_of user local))
+    MayNote change = IfSome change (MayChange user scene)
 
     may-noted : (change : Option LocalChange)
         → MayNote change → may_with book.ledger.entries machine (changed_entry number user change)
@@ -463,7 +462,7 @@ module _ (book : Plain) (actor : Actor) (number : ℕ) (task : UserTask) (whole 
         (sym on.at) (
           on.stands.accepted,
           change-told book whole user machine.boot on.began on.began.command
-              (change_of user change) may,
+              (change_of user change) may.allowed,
         )
 
     quiet-noted : (change : Option LocalChange) → IfSome (changed_entry number user change) IsQuiet

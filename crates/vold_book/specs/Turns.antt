@@ -1,6 +1,6 @@
 -- What a turn leaves of a Book: it begins a command, or makes one call of a device, or gives one reply.
 use Rattle.std.specs.Prelude.{◌≡◌, ◌≢◌, ℕ, ◌<◌, ◌==◌, ◌⊎◌, ◌↔◌, Bool, true, false, List, [], ◌∷◌, ◌++◌, length, Option}
-use Rattle.std.specs.Prelude.{Some, None, is_some, IsNone, Result, Ok, Err, slice_get, cond}
+use Rattle.std.specs.Prelude.{Some, None, is_some, IsNone, IfSome, Result, Ok, Err, slice_get, cond}
 use Rattle.std.specs.FinMap as map
 use Rattle.std.specs.List.{filter}
 use Rattle.tree_model.specs.declared.device.DevFault.{DevFault}
@@ -32,10 +32,13 @@ use Rattle.journal_model.specs.Command.{actor_of, user_in}
 use Rattle.journal_model.specs.Refusals.{refusal_of}
 use Rattle.journal_model.specs.Machine.{is_up, is_unlocked, phase_after, TakesTurn}
 use Rattle.journal_model.specs.Made.{boot_seed_of}
+use Rattle.journal_model.specs.Users.{Record, HasSecret, fold_changes}
 use Rattle.docket.specs.Docket.{empty_docket, with_command as docket_with, after_begin as docket_begun, begun_by}
 use Rattle.user_world.specs.declared.changes.LocalChange.{LocalChange}
 use Rattle.step_core.specs.Table.{NamedPlaces}
+use Rattle.key_directory.specs.Vaults.{NoChanceMatch}
 use Rattle.task_turns.specs.declared.calls.Call.{Call}
+use Rattle.task_turns.specs.Turns.{TellsOpened, opening_secret}
 use Rattle.bench.specs.declared.made.Made.{Made}
 use Rattle.bench.specs.Seen.{AnswersWhole}
 use Rattle.bench.specs.Bench.{BenchState, Senses, IsMade, AreCounted, device_of, told_of, listed}
@@ -55,7 +58,7 @@ use Rattle.vold_book.specs.Parts.{no_ledger, new_tracker, ledger_with, noted}
 use Rattle.vold_book.specs.Crowds.{is_crowded}
 use Rattle.vold_book.specs.Recovery.{max_commands, AllPlaced}
 use Rattle.vold_book.specs.Slots.{slots_for, is_full, slot_next}
-use Rattle.vold_book.specs.State.{BookState, Plain, over, seen, machine_of}
+use Rattle.vold_book.specs.State.{BookState, Plain, over, seen, machine_of, tried_in}
 use Rattle.vold_book.specs.Sweeping.{IsTidy}
 use Rattle.vold_book.specs.Tasks.{begins_anew, lists_with, TaskAfter, fault_of}
 use Rattle.vold_book.specs.Whole.{turns_left}
@@ -304,6 +307,32 @@ LeavesOthers before after actor = (owner user : ℕ) → actor ≡ User owner �
     → SameFor user (view before.bench.disk) (view after.bench.disk)
     × (entries_of user after.bench.store.entries ≡ entries_of user before.bench.store.entries)
     × (key_of after.bench.keys user ≡ key_of before.bench.keys user)
+
+-- the entries of an unlock and of a protect that come only once the user's key was opened: a key in the ring, a
+-- change, and that an unlock did its work
+abbrev pub ComesOfOpening : Entry → Command → Type 0
+ComesOfOpening (Installed user class) command = Unit {0}
+ComesOfOpening (Changed number change) command = Unit {0}
+ComesOfOpening (Replied number reply) command = TellsOpened reply command
+ComesOfOpening entry command = ⊥
+
+-- one of the user's slots is recorded under the secret, where no tag matched by chance
+pub record IsRecorded (book : Plain) (secret : List ℕ) (user : ℕ) : Type 0 where
+  pub known : Record
+  pub there : map.get (fold_changes (machine_of book).log) user ≡ Some known
+  pub under : NoChanceMatch (tried_in book user) → HasSecret known secret
+
+-- the command opens no key, or gave a right secret
+abbrev pub GaveRecorded : Plain → Command → Type 0
+GaveRecorded book command =
+    IfSome (opening_secret command) (λ secret. IfSome (user_in command) (IsRecorded book secret))
+
+-- a turn enters such an entry only for a command that gave a right secret
+abbrev pub OpensFirst : Plain → Plain → Actor → Type 0
+OpensFirst before after actor = (it : Running) (command : Command) (entry : Entry)
+    → map.get before.docket.running actor ≡ Some it → slice_get before.docket.commands it.number ≡ Some command
+    → after.ledger.entries ≡ before.ledger.entries ++ entry ∷ [] → ComesOfOpening entry command
+    → GaveRecorded before command
 
 -- fewer turns are left once one went
 abbrev pub Falls : Plain → Plain → Turn → Type 0

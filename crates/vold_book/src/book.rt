@@ -21,6 +21,7 @@ ghost use Rattle.vold_book.specs.Stops.{IsStopped, IsRestarted};
 ghost use Rattle.vold_book.specs.Turns.{new_book, new_bench, opened_at, with_command, IsEnqueued, facts_in};
 ghost use Rattle.vold_book.specs.Turns.{user_there, AcceptedTask};
 ghost use Rattle.vold_book.specs.Turns.{FirstTask, unlisted, Begins, Answers, LeavesOthers, Falls, ComesUp, IsSame};
+ghost use Rattle.vold_book.specs.Turns.{OpensFirst};
 ghost use Rattle.vold_book.specs.Whole.{IsWhole};
 
 use crate::entries::entry_of;
@@ -214,6 +215,8 @@ impl<T: TreeDisk, K: Keystore, G: KeyRing> Book<T, K, G> {
             (seen (senses T.disk T.counts K.store K.counts G.ring G.counts) self.new)) }
         ensures ready { OnOk result (ComesUp (seen (senses T.disk T.counts K.store K.counts G.ring G.counts) self.old)
             (seen (senses T.disk T.counts K.store K.counts G.ring G.counts) self.new)) }
+        ensures opens { OnOk result (OpensFirst (seen (senses T.disk T.counts K.store K.counts G.ring G.counts) self.old)
+            (seen (senses T.disk T.counts K.store K.counts G.ring G.counts) self.new) actor) }
         ensures refused { OnErr result
             (IsSame (senses T.disk T.counts K.store K.counts G.ring G.counts) self.old self.new) }
         ensures whole { IsWhole (senses T.disk T.counts K.store K.counts G.ring G.counts) self.new }

@@ -1,6 +1,7 @@
 use Rattle.bench.specs.Bench.{Senses}
 use Rattle.vold_book.specs.State.{senses}
 use Rattle.vold_book.proofs.Books.{begins-falls}
+use Rattle.vold_book.proofs.RightSecrets.{goes-opened}
 use Rattle.vold_book.proofs.Went.{goes-once, goes-isolates, goes-falls, goes-up}
 use Rattle.vold_book.proofs.book.Book.advance.Given.{Over}
 use Rattle.vold_book.proofs.book.Book.advance.Goals as goal
@@ -32,4 +33,9 @@ returns-in_ok-go_on-in-GoOn-clause-falls g c =
 pub returns-in_ok-go_on-in-GoOn-clause-ready : goal.returns-in_ok-go_on-in-GoOn-clause-ready
 returns-in_ok-go_on-in-GoOn-clause-ready g c =
     goes-up (means g) c.args.self.now c.go_on.new.self c.args.actor c.in-GoOn.ensures.whole
+    c.in_ok-go_on-in-GoOn.ensures.turned
+
+pub returns-in_ok-go_on-in-GoOn-clause-opens : goal.returns-in_ok-go_on-in-GoOn-clause-opens
+returns-in_ok-go_on-in-GoOn-clause-opens g c =
+    goes-opened (means g) c.args.self.now c.go_on.new.self c.args.actor c.in-GoOn.ensures.whole
     c.in_ok-go_on-in-GoOn.ensures.turned
