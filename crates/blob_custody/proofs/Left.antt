@@ -37,7 +37,7 @@ pub view-op : (disk : Disk) (op : Op) → view (with_op disk op) ≡ after_op (v
 view-op disk op = applied-append disk.stable disk.pending op
 
 -- with one more operation a stop leaves what it could before, or that operation's outcome on what all others leave
-left-op : (disk : Disk) (op : Op) (left : Tree) → IsLeft (with_op disk op) left
+pub left-op : (disk : Disk) (op : Op) (left : Tree) → IsLeft (with_op disk op) left
     → IsLeft disk left
     ⊎ ((before : Tree)
     × ((fill : Fill) × (IsImage disk.stable disk.pending before × (left ≡ after_op before (filled fill op)))))
@@ -58,7 +58,7 @@ pub nothing-pending : (tree : Tree) (keep : ℕ) (left : Tree) → IsImage tree 
 nothing-pending tree zero left is = is
 nothing-pending tree (suc keep) left is = is
 
-left-settled : (disk : Disk) → disk.pending ≡ [] → (left : Tree) → IsLeft disk left → left ≡ view disk
+pub left-settled : (disk : Disk) → disk.pending ≡ [] → (left : Tree) → IsLeft disk left → left ≡ view disk
 left-settled disk settled left is =
     subst (λ ops. IsImage disk.stable (take is.keep ops) left → left ≡ applied disk.stable ops) (sym settled)
     (nothing-pending disk.stable is.keep left) is.image

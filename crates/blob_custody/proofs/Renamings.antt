@@ -233,7 +233,7 @@ module _ (part : Part) (from to : Slot) (blob : Blob) where
   abbrev without_from : Part
   without_from = set part (Ce from) None
 
-  moved-names : (found : Option Files) → part (Ce from) ≡ found
+  pub moved-names : (found : Option Files) → part (Ce from) ≡ found
       → PartNames (if_there found part (λ files. set without_from (Ce to) (Some files))) blob
       → PartNames part blob
   moved-names None none names = names
@@ -252,7 +252,7 @@ module _ (part : Part) (from to : Slot) (blob : Blob) where
     | inr differ ↦ set-other part from None to differ ∙ free
   ]
 
-  moved-keeps : part (Ce to) ≡ None → (found : Option Files) → part (Ce from) ≡ found → PartNames part blob
+  pub moved-keeps : part (Ce to) ≡ None → (found : Option Files) → part (Ce from) ≡ found → PartNames part blob
       → PartNames (if_there found part (λ files. set without_from (Ce to) (Some files))) blob
   moved-keeps free None none names = names
   moved-keeps free (Some files) there names = elim (names-old part from None blob names) [

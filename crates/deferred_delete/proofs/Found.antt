@@ -1,9 +1,8 @@
 -- Which item a search through the list finds, and what is left of the list without one.
 use Rattle.std.proofs.Common.{◌≡◌, ◌≢◌, ◌⊎◌, inl, inr, ℕ, zero, suc, ◌<◌, ◌≤◌, Bool, true, false, not, cond, List}
-use Rattle.std.proofs.Common.{[], ◌∷◌, length, get_or, refl, sym, ap, ◌∙◌, subst, arith, eq-eqb}
-use Rattle.std.specs.Prelude.{Option, Some, None, IfSome, IfNone, IsTrue, ◌==◌, ◌&&◌, nat_le, AllPairs, Contains}
-use Rattle.std.specs.Prelude.{All}
-use Rattle.std.specs.List.{filter, find, remove, position_or_len, HoldsAt}
+use Rattle.std.proofs.Common.{[], ◌∷◌, length, get_or, refl, sym, ap, ◌∙◌, arith, eq-eqb}
+use Rattle.std.specs.Prelude.{Option, Some, None, IfSome, IfNone, IsTrue, ◌&&◌, nat_le, AllPairs, Contains}
+use Rattle.std.specs.List.{find, remove, position_or_len, HoldsAt}
 use Rattle.std.specs.List.Sorted.{IsNonDecreasingBy, IsPartitionPoint}
 use Rattle.std.specs.declared.cmp.Ordering.TheVariants.{Less, Equal, Greater}
 use Rattle.std.specs.Ordering.{nat_cmp, ordering_index}
@@ -11,14 +10,13 @@ use Rattle.std.proofs.lemmas.Bool.{cases_lt, and_parts, true≢false}
 use Rattle.std.proofs.lemmas.Bool.Decides.{nat_tests}
 use Rattle.std.proofs.lemmas.Cmp.{ranked}
 use Rattle.std.proofs.lemmas.List.{get_or-map, length-map}
-use Rattle.std.proofs.lemmas.List.Elements.{All-filter}
 use Rattle.std.proofs.lemmas.List.Folds.{find_at}
-use Rattle.std.proofs.lemmas.List.Kept.{AllPairs-filter}
 use Rattle.std.proofs.lemmas.List.Sums.{fails_before_first, passes_at_first, length-filter, count_by-le-length}
 use Rattle.std.proofs.lemmas.Option.{slice_get_within, slice_get-get_or, same_Some, none-some}
 use Rattle.deferred_delete.specs.declared.items.Item.{Item}
 use Rattle.deferred_delete.specs.Deferral.{IsLowest, Deferral, IsNumbered, IsKept, IsFirstSynced, NoneSynced}
 use Rattle.deferred_delete.specs.Deferral.{may_go, numbers, taken}
+use Rattle.deferred_delete.proofs.Numbered.{other_than, numbered-taken}
 
 number-at : (items : List Item) (k : ℕ) (d : Item) → k < length items
     → get_or (numbers items) k 0 ≡ (get_or items k d).number
@@ -103,10 +101,7 @@ module _ (list : Deferral) (from : ℕ) where
 
 -- without the item of a number
 module _ (number : ℕ) where
-  abbrev other_than : ℕ → Bool
-  other_than n = not (n == number)
-
-  stays : (n : ℕ) → n ≢ number → other_than n ≡ true
+  stays : (n : ℕ) → n ≢ number → other_than number n ≡ true
   stays n differs = grind (arith, nat_tests)
 
   taken-none : (items : List Item) → ((k : ℕ) → k < length items → get_or (numbers items) k 0 ≢ number)
@@ -130,31 +125,15 @@ module _ (number : ℕ) where
       (taken-one items at (omega (arith, within)) is
       (λ k below apart. differ (suc k) (omega (arith, below)) (λ same. apart (omega (arith, same)))))
 
-  numbers-taken : (items : List Item) → numbers (taken items number) ≡ filter other_than (numbers items)
-  numbers-taken [] = refl
-  numbers-taken (item ∷ items) = by (other_than item.number) (numbers-taken items)
-    where
-      by : (stays : Bool) → numbers (taken items number) ≡ filter other_than (numbers items)
-          → numbers (cond stays (item ∷ taken items number) (taken items number))
-          ≡ cond stays (item.number ∷ filter other_than (numbers items)) (filter other_than (numbers items))
-      by true rest = ap (λ ns. item.number ∷ ns) rest
-      by false rest = rest
-
   pub kept-taken : {items : List Item} {next promised capacity : ℕ} → IsKept items next promised capacity
       → IsKept (taken items number) next promised capacity
   kept-taken {items} {next} {promised} {capacity} kept = record {
-    numbered = record {
-      rising = subst (AllPairs (λ earlier later. earlier < later)) (sym (numbers-taken items))
-          (AllPairs-filter (λ earlier later. earlier < later) other_than (numbers items) kept.numbered.rising);
-      below = subst (All (λ n. n < next)) (sym (numbers-taken items))
-          (All-filter other_than (λ n. n < next) (numbers items) kept.numbered.below);
-      few = kept.numbered.few;
-    };
+    numbered = numbered-taken number (record { items = items; next = next; promised = promised }) kept.numbered;
     room = omega (
       arith,
       kept.room,
-      length-filter (λ (item : Item). other_than item.number) items,
-      count_by-le-length (λ (item : Item). other_than item.number) items,
+      length-filter (λ (item : Item). other_than number item.number) items,
+      count_by-le-length (λ (item : Item). other_than number item.number) items,
     );
   }
 

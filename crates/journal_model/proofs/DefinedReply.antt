@@ -5,7 +5,8 @@ use Rattle.std.proofs.lemmas.Bool.{leb-true, le-leb}
 use Rattle.std.specs.Prelude.{Bool, true, false, not, Option, Some, None, nat_le}
 use Rattle.std.specs.FinMap as map
 use Rattle.journal_model.specs.declared.commands.Command.{Command}
-use Rattle.journal_model.specs.declared.commands.Command.TheVariants.{Create, Unlock, Lock, Protect, Recover}
+use Rattle.journal_model.specs.declared.commands.Command.TheVariants.{Create, Unlock, Lock, Protect, Fixate}
+use Rattle.journal_model.specs.declared.commands.Command.TheVariants.{Destroy, Recover}
 use Rattle.journal_model.specs.declared.commands.Reply.{Reply}
 use Rattle.journal_model.specs.declared.commands.Reply.TheVariants.{UserExists, TooManyUsers, NoUser, NotInstalled}
 use Rattle.journal_model.specs.DefinedReply.{defined_facts, defined_reply_of, DefinedReplyIsVerdict}
@@ -48,6 +49,8 @@ settled (Lock user) machine reply is =
     let facts = facts_of machine (Lock user) in
     first-more (due (not facts.present) NoUser) None (due (not facts.installed) NotInstalled) reply (λ none. cc) is
 settled (Protect user given fresh) machine reply is = is
+settled (Fixate user) machine reply is = is
+settled (Destroy user) machine reply is = is
 settled Recover machine reply is = cc
 
 pub defined_reply_is_verdict : DefinedReplyIsVerdict

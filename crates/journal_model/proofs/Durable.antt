@@ -7,14 +7,16 @@ use Rattle.std.proofs.lemmas.List.{append-nil, take-append-drop, take-append-le,
 use Rattle.std.proofs.lemmas.List.Elements.{Contains-push_cases, Contains-append_cases}
 use Rattle.journal_model.specs.declared.commands.Command.{Command}
 use Rattle.journal_model.specs.declared.commands.Command.TheVariants.{Create, Protect}
+use Rattle.journal_model.specs.declared.commands.Reply.{Reply}
 use Rattle.journal_model.specs.declared.commands.Reply.TheVariants.{Done}
 use Rattle.journal_model.specs.declared.entries.Change.{Change}
 use Rattle.journal_model.specs.declared.entries.Entry.{Entry}
 use Rattle.journal_model.specs.declared.entries.Entry.TheVariants.{Began, Changed, Synced, Installed, Evicted}
-use Rattle.journal_model.specs.declared.entries.Entry.TheVariants.{Stopped, Restarted, Replied}
+use Rattle.journal_model.specs.declared.entries.Entry.TheVariants.{Swept, Stopped, Restarted, Replied}
 use Rattle.journal_model.specs.Users.{owner_of}
 use Rattle.journal_model.specs.Machine.{Machine, Running, first_machine, after_entry, machine_from, NoChangeOf}
-use Rattle.journal_model.specs.Machine.{AllowsReply, DidWork, evidence_of, MayCome, IsLegal, IsLegalFrom}
+use Rattle.journal_model.specs.Machine.{AllowsReply, MayEnd, ComesTo, DidWork, kind_of_reply, evidence_of}
+use Rattle.journal_model.specs.Machine.{MayCome, IsLegal, IsLegalFrom}
 use Rattle.journal_model.specs.Durable.{durable_changes, IsFront, Survive, LawOfAnswered, MadeDurably}
 
 -- no more changes are durable than there are
@@ -77,6 +79,7 @@ step before machine Synced counted may = (
 )
 step before machine (Installed user class) counted may = (counted, survive-same machine _ refl refl)
 step before machine (Evicted user class) counted may = (counted, survive-same machine _ refl refl)
+step before machine (Swept blob) counted may = (counted, survive-same machine _ refl refl)
 step before machine (Stopped kept) counted may =
     let cut : length (take kept machine.log) ≡ kept = length-take-le kept machine.log may.2 in
     let again : take kept (take kept machine.log) ≡ take kept machine.log =
@@ -129,32 +132,37 @@ another-change user (first ∷ changes) change none there =
       | inr rest ↦ another-change user changes change none.1 rest
     ]
 
+-- a logged change is durable where none of its user's is undurable
+pub logged-durable : (machine : Machine) (user : ℕ) (change : Change) → owner_of change ≡ user
+    → Contains machine.log change → NoChangeOf user (drop machine.kept machine.log)
+    → Contains (durable_changes machine) change
+logged-durable machine user change mine logged all =
+    elim (Contains-append_cases (durable_changes machine) (drop machine.kept machine.log) change
+    (subst (λ log. Contains log change) (sym (take-append-drop machine.kept machine.log)) logged)) [
+      | inl there ↦ there
+      | inr behind ↦ absurd (another-change user (drop machine.kept machine.log) change all behind mine)
+    ]
+
+-- what may come of a running command that was not refused
+pub may-end : (machine : Machine) (running : Running) (reply : Reply) (found : Option Running)
+    → found ≡ Some running → running.verdict ≡ None
+    → IsSomeAnd found (λ r. AllowsReply machine r r.verdict reply)
+    → MayEnd (kind_of_reply reply) (ComesTo machine running reply)
+may-end machine running reply None is none may = absurd may
+may-end machine running reply (Some r) is none may =
+    let same : r ≡ running = cc in
+    subst (λ verdict. AllowsReply machine running verdict reply) none
+    (subst (λ r. AllowsReply machine r r.verdict reply) same may)
+
 pub answered : LawOfAnswered
 answered entries number running is none may =
-    told running.command (subst (λ verdict. AllowsReply machine running verdict Done) none
-    (allowed (map.get machine.running number) is may))
+    told running.command (may-end machine running Done (map.get machine.running number) is none may)
   where
     machine : Machine
     machine = machine_from [] first_machine entries
 
-    allowed : (found : Option Running) → found ≡ Some running
-        → IsSomeAnd found (λ r. AllowsReply machine r r.verdict Done)
-        → AllowsReply machine running running.verdict Done
-    allowed None e h = absurd h
-    allowed (Some r) e h = let same : r ≡ running = cc in subst (λ r. AllowsReply machine r r.verdict Done) same h
-
-    -- a logged change is durable where none of its user's is undurable
-    durable : (user : ℕ) (change : Change) → owner_of change ≡ user → Contains machine.log change
-        → NoChangeOf user (drop machine.kept machine.log) → Contains (durable_changes machine) change
-    durable user change mine logged all =
-        elim (Contains-append_cases (durable_changes machine) (drop machine.kept machine.log) change
-        (subst (λ log. Contains log change) (sym (take-append-drop machine.kept machine.log)) logged)) [
-          | inl there ↦ there
-          | inr behind ↦ absurd (another-change user (drop machine.kept machine.log) change all behind mine)
-        ]
-
     told : (command : Command) → DidWork (evidence_of machine) machine.boot running command
         → MadeDurably machine running command
-    told (Create user) did = durable user _ refl did.0 did.1
-    told (Protect user given fresh) did = (did.0.0, did.0.1, durable user _ refl did.0.2 did.1)
+    told (Create user) did = logged-durable machine user _ refl did.0 did.1
+    told (Protect user given fresh) did = (did.0.0, did.0.1, logged-durable machine user _ refl did.0.2 did.1)
     told command did = tt

@@ -4,7 +4,7 @@ use Rattle.std.proofs.lemmas.List.{take_more}
 use Rattle.journal_model.specs.declared.entries.Change.{Change}
 use Rattle.journal_model.specs.declared.entries.Entry.{Entry}
 use Rattle.journal_model.specs.declared.entries.Entry.TheVariants.{Began, Changed, Synced, Installed, Evicted}
-use Rattle.journal_model.specs.declared.entries.Entry.TheVariants.{Stopped, Restarted, Replied}
+use Rattle.journal_model.specs.declared.entries.Entry.TheVariants.{Swept, Stopped, Restarted, Replied}
 use Rattle.journal_model.specs.Users.{Users, no_users, after_change, folded, fold_changes}
 use Rattle.journal_model.specs.Log.{log_after}
 use Rattle.journal_model.specs.Machine.{Machine, after_entry, log_of, machine_after}
@@ -17,6 +17,7 @@ log-after_entry before machine (Changed number change) = refl
 log-after_entry before machine Synced = refl
 log-after_entry before machine (Installed user class) = refl
 log-after_entry before machine (Evicted user class) = refl
+log-after_entry before machine (Swept blob) = refl
 log-after_entry before machine (Stopped kept) = refl
 log-after_entry before machine (Restarted boot level) = refl
 log-after_entry before machine (Replied number reply) = refl

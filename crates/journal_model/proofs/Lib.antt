@@ -1,7 +1,9 @@
+pub mod Acknowledged
 pub mod ByCommand
 pub mod DefinedReply
 pub mod Durable
 pub mod Folds
+pub mod HeldSlots
 pub mod Records
 pub mod SealedKeys
 pub mod Slots

@@ -1,5 +1,5 @@
 -- A user's slots as rows in their order: where a slot stands or belongs among them, the map that they make with a slot
--- more, and the map of users with the user's record put back.
+-- more or less, and the map of users with the user's record put back.
 use Rattle.std.proofs.Common.{◌≡◌, ℕ, zero, suc, List, [], ◌∷◌, length, get_or, set, refl, sym, ap, ◌∙◌, subst, arith}
 use Rattle.std.specs.Prelude.{Some, None, Result, Ok, Err, IfOk, IfErr}
 use Rattle.std.specs.declared.cmp.Ordering.{Ordering}
@@ -8,8 +8,8 @@ use Rattle.std.specs.Cmp.{nat_cmp_total}
 use Rattle.std.specs.Ordering.{ordering_index, ordering_reverse}
 use Rattle.std.specs.FinMap as map
 use Rattle.std.specs.FinMap.{from_sorted, nat_cmp-IsAntisymmetric}
-use Rattle.std.specs.FinMap.Entries.{put, by_order}
-use Rattle.std.specs.List.{insert}
+use Rattle.std.specs.FinMap.Entries.{find, put, by_order}
+use Rattle.std.specs.List.{insert, remove, zip}
 use Rattle.std.specs.List.Sorted.{IsSearchInRange, IsBinarySearchResult, IsStrictlySortedBy}
 use Rattle.std.proofs.Math.ListN.{get_or-map}
 use Rattle.std.proofs.lemmas.List.{length-map}
@@ -17,12 +17,13 @@ use Rattle.tree_model.specs.declared.places.Slot.{Slot}
 use Rattle.tree_model.specs.declared.places.Slot.TheVariants.{Current}
 use Rattle.tree_model.specs.Order.{slot_cmp, slot_total, slot_exact}
 use Rattle.tree_model.proofs.Maps.{insert-remove, remove_absent}
-use Rattle.sorted_map.specs.Rows.{keys, IsSorted, StandsAt, BelongsAt}
+use Rattle.sorted_map.specs.Rows.{keys, values, without, IsSorted, StandsAt, BelongsAt}
 use Rattle.sorted_map.proofs.Held.{nothing-held}
 use Rattle.sorted_map.proofs.Maps.{aligned-columns}
-use Rattle.sorted_map.proofs.Places.{placed, rising, sorted-put}
-use Rattle.sorted_map.proofs.Rows.{insert-rows, keys-rows}
-use Rattle.journal_model.specs.Users.{Secrets, Record, Users, new_secrets, with_slot, added}
+use Rattle.sorted_map.proofs.Places.{placed, rising, found, find-belongs, without-stands, sorted-put, sorted-without}
+use Rattle.sorted_map.proofs.Rows.{get-rows, insert-rows, remove-rows, keys-rows}
+use Rattle.journal_model.specs.Users.{Secrets, Record, Users, new_secrets, without_slot, moved_from, settled_slot}
+use Rattle.journal_model.specs.Users.{edited, with_record, with_edit}
 
 abbrev Rows : Type 0
 Rows = List (Slot × List ℕ)
@@ -99,16 +100,67 @@ module _ (slot : Slot) where
       pub edited-rows : from_sorted {R = slot_cmp} edited ≡ map.insert (from_sorted {R = slot_cmp} rows) slot secret
       edited-rows = ap (from_sorted {R = slot_cmp}) is ∙ insert-rows slot_total rows sorted slot secret
 
--- a user's record is taken out of the map of users, and put back with a slot more
-module _ (users without : Users) (user : ℕ) (slot : Slot) (secret : List ℕ) (is : without ≡ map.remove users user)
-  where
-    pub added-back : (known edited : Record) → Some known ≡ map.get users user → edited ≡ with_slot known slot secret
-        → map.insert without user edited ≡ added users user slot secret (map.get users user)
-    added-back known edited there more =
-        (λ i. map.insert (is i) user (more i))
-        ∙ insert-remove nat_cmp_total nat_cmp-IsAntisymmetric users user (with_slot known slot secret)
-        ∙ ap (added users user slot secret) there
+-- rows are their slots beside their secrets, and so are those that are left with one taken out
+zip-rows : (rows : Rows) → zip (keys rows) (values rows) ≡ rows
+zip-rows [] = refl
+zip-rows (row ∷ rows) = ap (λ rest. row ∷ rest) (zip-rows rows)
 
-    pub added-nowhere : None ≡ map.get users user → without ≡ added users user slot secret (map.get users user)
-    added-nowhere none = is ∙ remove_absent nat_cmp_total nat_cmp-IsAntisymmetric users user (sym none)
-        ∙ ap (added users user slot secret) none
+zip-left : (rows : Rows) (i : ℕ) → zip (remove (keys rows) i) (remove (values rows) i) ≡ remove rows i
+zip-left [] zero = refl
+zip-left [] (suc i) = refl
+zip-left (row ∷ rows) zero = zip-rows rows
+zip-left (row ∷ rows) (suc i) = ap (λ rest. row ∷ rest) (zip-left rows i)
+
+module _ (slot : Slot) (rows : Rows) (sorted : IsSorted slot_cmp rows) (i : ℕ) where
+  same-length : length (values rows) ≡ length (keys rows)
+  same-length = length-map rows (λ row. row.1) ∙ sym (length-map rows (λ row. row.0))
+
+  -- the slot isn't there
+  pub absent-secret : BelongsAt slot_cmp slot (keys rows) i → None ≡ map.get (from_sorted {R = slot_cmp} rows) slot
+  absent-secret absent = sym (get-rows slot_cmp rows sorted slot
+      ∙ ap (find slot_cmp slot) (sym (zip-rows rows))
+      ∙ find-belongs slot_total slot (keys rows) (values rows) i absent)
+
+  -- the slot is taken out
+  module _ (there : StandsAt slot_cmp slot (keys rows) i) where
+    pub taken-secret : (row : Slot × List ℕ) → row ≡ get_or rows i row
+        → Some row.1 ≡ map.get (from_sorted {R = slot_cmp} rows) slot
+    taken-secret row is =
+        found slot_total slot (keys rows) (values rows) i row.1 there same-length
+        (ap (λ read. read.1) is ∙ sym (get_or-map (λ row. row.1) rows i row))
+        ∙ ap (find slot_cmp slot) (zip-rows rows) ∙ sym (get-rows slot_cmp rows sorted slot)
+
+    left-without : remove rows i ≡ without slot_cmp slot rows
+    left-without = sym (ap (without slot_cmp slot) (sym (zip-rows rows))
+        ∙ without-stands slot_total slot (keys rows) (values rows) i there same-length ∙ zip-left rows i)
+
+    module _ (left : Rows) (is : left ≡ remove rows i) where
+      pub left-sorted : IsSorted slot_cmp left
+      left-sorted =
+          subst (IsSorted slot_cmp) (sym (is ∙ left-without)) (sorted-without slot_total slot rows sorted)
+
+      pub left-rows : from_sorted {R = slot_cmp} left ≡ map.remove (from_sorted {R = slot_cmp} rows) slot
+      left-rows = ap (from_sorted {R = slot_cmp}) (is ∙ left-without)
+          ∙ remove-rows slot_total rows sorted slot_exact slot
+
+-- a record without a slot that it doesn't have, and with such a slot settled
+module _ (known : Record) (slot : Slot) (none : None ≡ map.get known.secrets slot) where
+  pub without-nowhere : known ≡ without_slot known slot
+  without-nowhere = ap (λ (secrets : Secrets). record known { secrets = secrets })
+      (sym (remove_absent slot_total slot_exact known.secrets slot (sym none)))
+
+  pub settled-nowhere : known ≡ settled_slot known slot
+  settled-nowhere = ap (λ found. record known { secrets = moved_from known.secrets slot found }) none
+
+-- a user's record is taken out of the map of users, and put back as edited
+module _ (users without : Users) (user : ℕ) (edit : Record → Record) (is : without ≡ map.remove users user) where
+  pub edited-back : (known after : Record) → Some known ≡ map.get users user → after ≡ edit known
+      → map.insert without user after ≡ with_edit users user edit
+  edited-back known after there more =
+      (λ i. map.insert (is i) user (more i))
+      ∙ insert-remove nat_cmp_total nat_cmp-IsAntisymmetric users user (edit known)
+      ∙ ap (λ found. with_record users user (edited found edit)) there
+
+  pub edited-nowhere : None ≡ map.get users user → without ≡ with_edit users user edit
+  edited-nowhere none = is ∙ remove_absent nat_cmp_total nat_cmp-IsAntisymmetric users user (sym none)
+      ∙ ap (λ found. with_record users user (edited found edit)) none

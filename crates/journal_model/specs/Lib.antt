@@ -2,7 +2,9 @@ pub mod Actor
 pub mod Command
 pub mod DefinedReply
 pub mod Durable
+pub mod Endings
 pub mod Hashes
+pub mod HeldSlots
 pub mod Log
 pub mod Machine
 pub mod Made

@@ -1,24 +1,29 @@
 -- The machine that a journal's entries step: what each entry does to it, and when the entry may come.
 use Rattle.std.specs.Prelude.{◌≡◌, ◌≢◌, ℕ, ◌+◌, ◌≤◌, Bool, true, false, cond, List, [], ◌∷◌, ◌++◌, length, take, drop}
-use Rattle.std.specs.Prelude.{Option, Some, None, IsSomeAnd, IfSome, Contains, nat_le, flat_map}
+use Rattle.std.specs.Prelude.{Option, Some, None, IsSome, IsSomeAnd, IfSome, Contains, nat_le, flat_map}
 use Rattle.std.specs.Ordering.{nat_cmp, eq_by_cmp}
 use Rattle.std.specs.FinMap as map
+use Rattle.tree_model.specs.declared.blobs.Blob.{Blob}
 use Rattle.tree_model.specs.declared.places.Slot.{Slot}
+use Rattle.tree_model.specs.declared.places.Slot.TheVariants.{Current}
 use Rattle.tree_model.specs.declared.places.Class.{Class}
 use Rattle.tree_model.specs.declared.places.Class.TheVariants.{De, Ce}
 use Rattle.key_ring.specs.Ring.{Owner, has_owner, with_owner, without_owner}
 use Rattle.journal_model.specs.declared.commands.Actor.{Actor}
 use Rattle.journal_model.specs.declared.commands.Actor.TheVariants.{Boot}
 use Rattle.journal_model.specs.declared.commands.Command.{Command}
-use Rattle.journal_model.specs.declared.commands.Command.TheVariants.{Create, Unlock, Lock, Protect, Recover}
+use Rattle.journal_model.specs.declared.commands.Command.TheVariants.{Create, Unlock, Lock, Protect, Fixate}
+use Rattle.journal_model.specs.declared.commands.Command.TheVariants.{Destroy, Recover}
 use Rattle.journal_model.specs.declared.commands.Reply.{Reply}
-use Rattle.journal_model.specs.declared.commands.Reply.TheVariants.{Done, Ended, WrongSecret, TreeFault, StoreFault}
-use Rattle.journal_model.specs.declared.commands.Reply.TheVariants.{RingFault}
+use Rattle.journal_model.specs.declared.commands.Reply.TheVariants.{Done, Ended, Gone, WrongSecret, TreeFault}
+use Rattle.journal_model.specs.declared.commands.Reply.TheVariants.{StoreFault, RingFault}
 use Rattle.journal_model.specs.declared.entries.Change.{Change}
 use Rattle.journal_model.specs.declared.entries.Change.TheVariants.{Create as Created, Add as Added}
+use Rattle.journal_model.specs.declared.entries.Change.TheVariants.{Drop as Dropped, Settle as Settled}
+use Rattle.journal_model.specs.declared.entries.Change.TheVariants.{Destroy as Destroyed}
 use Rattle.journal_model.specs.declared.entries.Entry.{Entry}
 use Rattle.journal_model.specs.declared.entries.Entry.TheVariants.{Began, Changed, Synced, Installed, Evicted}
-use Rattle.journal_model.specs.declared.entries.Entry.TheVariants.{Stopped, Restarted, Replied}
+use Rattle.journal_model.specs.declared.entries.Entry.TheVariants.{Swept, Stopped, Restarted, Replied}
 use Rattle.journal_model.specs.declared.phase.Phase.{Phase}
 use Rattle.journal_model.specs.declared.phase.Phase.TheVariants.{Up, Down, Halted}
 use Rattle.journal_model.specs.declared.refusals.Facts.{Facts}
@@ -26,7 +31,7 @@ use Rattle.journal_model.specs.Actor.{actor_cmp}
 use Rattle.journal_model.specs.Command.{actor_of, user_in}
 use Rattle.journal_model.specs.Refusals.{refusal_of}
 use Rattle.journal_model.specs.Users.{Record, Users, HasSecret, fold_changes, owner_of, slots_of, leave_none}
-use Rattle.journal_model.specs.Users.{next_slot}
+use Rattle.journal_model.specs.Users.{next_slot, HasOnly, HasNewest}
 
 -- a command that began: its number, the refusal that was due then, the changes that it made so far, and how many
 -- commands its actor had begun before it in the same boot
@@ -77,6 +82,14 @@ number_begun entry = []
 abbrev pub numbers_begun : List Entry → List ℕ
 numbers_begun [] = []
 numbers_begun (entry ∷ entries) = number_begun entry ++ numbers_begun entries
+
+-- the blob whose entry was deleted, as a list, and those of all entries
+abbrev pub blob_swept : Entry → List Blob
+blob_swept (Swept blob) = blob ∷ []
+blob_swept entry = []
+
+abbrev pub blobs_swept : List Entry → List Blob
+blobs_swept entries = flat_map blob_swept entries
 
 -- whether the user is there, if there is one
 abbrev pub is_present : Option ℕ → Users → Bool
@@ -173,6 +186,7 @@ after_entry before machine (Changed number change) = record machine {
 after_entry before machine Synced = record machine { kept = length machine.log }
 after_entry before machine (Installed user class) = record machine { ring = with_owner machine.ring user class }
 after_entry before machine (Evicted user class) = record machine { ring = without_owner machine.ring user class }
+after_entry before machine (Swept blob) = machine
 after_entry before machine (Stopped kept) =
     record machine { phase = Halted; log = take kept machine.log; kept = kept; ring = []; running = no_running }
 after_entry before machine (Restarted boot level) = record machine { phase = Down; boot = boot; level = level }
@@ -207,6 +221,7 @@ Installs command user class = ⊥
 -- a command takes this key of the user out of use
 abbrev pub Evicts : Command → ℕ → Class → Type 0
 Evicts (Lock owner) user class = (owner ≡ user) × (class ≡ Ce)
+Evicts (Destroy owner) user class = owner ≡ user
 Evicts command user class = ⊥
 
 -- how a reply ends a command: it tells what came of its work, it was refused, or a device failed
@@ -216,6 +231,7 @@ pub data ReplyKind : Type 0 where
 abbrev pub kind_of_reply : Reply → ReplyKind
 kind_of_reply Done = Outcome
 kind_of_reply (Ended count) = Outcome
+kind_of_reply Gone = Outcome
 kind_of_reply WrongSecret = Outcome
 kind_of_reply TreeFault = Fault
 kind_of_reply StoreFault = Fault
@@ -230,24 +246,45 @@ pub record Evidence : Type 1 where
   pub has_key : ℕ → Class → Bool → Type 0
   pub recorded : ℕ → Record → Type 0
 
+-- a fixation on a slot: another slot of the user is dropped, or the slot itself, the only one by then, becomes the
+-- current one
+abbrev pub Fixes : ℕ → Record → Slot → Change → Type 0
+Fixes user known kept (Dropped owner slot) =
+    (owner ≡ user) × (slot ≢ kept) × IsSome (map.get known.secrets slot)
+Fixes user known kept (Settled owner slot) =
+    (owner ≡ user) × (slot ≡ kept) × (kept ≢ Current) × HasOnly known kept
+Fixes user known kept change = ⊥
+
 -- the change that a running command may make next, in this boot: by what is told of the user
 abbrev pub AllowsChange : Evidence → ℕ → Running → Command → Change → Type 0
 AllowsChange evidence boot running (Create user) change =
     (running.changes ≡ []) × (change ≡ Created user (record { boot = boot; index = running.index }))
 AllowsChange evidence boot running (Protect user given fresh) change = (running.changes ≡ [])
     × ((known : Record) × evidence.recorded user known × (change ≡ Added user (next_slot known) fresh))
+AllowsChange evidence boot running (Unlock user secret) change = (known : Record) × evidence.recorded user known
+    × ((kept : Slot) × IsSome (map.get known.secrets kept) × Fixes user known kept change)
+AllowsChange evidence boot running (Fixate user) change = (known : Record) × evidence.recorded user known
+    × ((kept : Slot) × HasNewest known kept × Fixes user known kept change)
+AllowsChange evidence boot running (Destroy user) change = (running.changes ≡ []) × (change ≡ Destroyed user)
 AllowsChange evidence boot running command change = ⊥
+
+-- the user's one slot is the current one, and the user's changes are durable
+abbrev pub IsFixed : Evidence → ℕ → Type 0
+IsFixed evidence user = ((known : Record) × evidence.recorded user known × HasOnly known Current)
+    × evidence.durable (Some user)
 
 -- a command did its work, in this boot
 abbrev pub DidWork : Evidence → ℕ → Running → Command → Type 0
 DidWork evidence boot running (Create user) =
     evidence.logged (Created user (record { boot = boot; index = running.index })) × evidence.durable (Some user)
     × evidence.has_key user De true × evidence.has_key user Ce true
-DidWork evidence boot running (Unlock user secret) = evidence.has_key user Ce true
+DidWork evidence boot running (Unlock user secret) = evidence.has_key user Ce true × IsFixed evidence user
 DidWork evidence boot running (Lock user) = evidence.has_key user Ce false
 DidWork evidence boot running (Protect user given fresh) =
     ((slot : Slot) × (running.changes ≡ Added user slot fresh ∷ []) × evidence.logged (Added user slot fresh))
     × evidence.durable (Some user)
+DidWork evidence boot running (Fixate user) = IsFixed evidence user
+DidWork evidence boot running (Destroy user) = ⊥
 DidWork evidence boot running Recover = ⊥
 
 -- a recovery did its work, with so many deletes
@@ -255,13 +292,19 @@ abbrev pub DidRecover : Evidence → ℕ → Command → Type 0
 DidRecover evidence count Recover = (count ≡ 0) × evidence.durable None
 DidRecover evidence count command = ⊥
 
+-- a destroy did its work
+abbrev pub DidDestroy : Evidence → Running → Command → Type 0
+DidDestroy evidence running (Destroy user) =
+    (running.changes ≡ Destroyed user ∷ []) × evidence.logged (Destroyed user) × evidence.durable (Some user)
+DidDestroy evidence running command = ⊥
+
 -- no slot of the user is under the secret that a command was given
 abbrev pub LacksSecret : Evidence → ℕ → List ℕ → Type 0
 LacksSecret evidence user secret = (known : Record) × evidence.recorded user known × ¬ (HasSecret known secret)
 
 -- and the command made no change
 abbrev pub GaveWrongSecret : Evidence → Running → Command → Type 0
-GaveWrongSecret evidence running (Unlock user secret) = LacksSecret evidence user secret
+GaveWrongSecret evidence running (Unlock user secret) = (running.changes ≡ []) × LacksSecret evidence user secret
 GaveWrongSecret evidence running (Protect user given fresh) = (running.changes ≡ []) × LacksSecret evidence user given
 GaveWrongSecret evidence running command = ⊥
 
@@ -269,6 +312,7 @@ GaveWrongSecret evidence running command = ⊥
 abbrev pub AllowsOutcome : Evidence → ℕ → Running → Reply → Type 0
 AllowsOutcome evidence boot running Done = DidWork evidence boot running running.command
 AllowsOutcome evidence boot running (Ended count) = DidRecover evidence count running.command
+AllowsOutcome evidence boot running Gone = DidDestroy evidence running running.command
 AllowsOutcome evidence boot running WrongSecret = GaveWrongSecret evidence running running.command
 AllowsOutcome evidence boot running reply = ⊥
 
@@ -315,6 +359,8 @@ MayCome before machine (Installed user class) = (map.contains_key (fold_changes 
     (λ running. (running.verdict ≡ None) × Installs running.command user class))
 MayCome before machine (Evicted user class) = (number : ℕ) × IsSomeAnd (map.get machine.running number)
     (λ running. (running.verdict ≡ None) × Evicts running.command user class)
+MayCome before machine (Swept blob) = ¬ (Contains (blobs_swept before) blob)
+    × ((number : ℕ) × IsSomeAnd (map.get machine.running number) (λ running. running.verdict ≡ None))
 MayCome before machine (Stopped kept) =
     (machine.phase ≢ Halted) × (machine.kept ≤ kept) × (kept ≤ length machine.log)
 MayCome before machine (Restarted boot level) =

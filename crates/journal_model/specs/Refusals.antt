@@ -1,7 +1,8 @@
 -- The refusals, each said once, over plain facts and in the order of trial.
 use Rattle.std.specs.Prelude.{Bool, true, false, not, Option, Some, None}
 use Rattle.journal_model.specs.declared.commands.Command.{Command}
-use Rattle.journal_model.specs.declared.commands.Command.TheVariants.{Create, Unlock, Lock, Protect, Recover}
+use Rattle.journal_model.specs.declared.commands.Command.TheVariants.{Create, Unlock, Lock, Protect, Fixate}
+use Rattle.journal_model.specs.declared.commands.Command.TheVariants.{Destroy, Recover}
 use Rattle.journal_model.specs.declared.commands.Reply.{Reply}
 use Rattle.journal_model.specs.declared.commands.Reply.TheVariants.{UserExists, TooManyUsers, NoUser, NotInstalled}
 use Rattle.journal_model.specs.declared.commands.Reply.TheVariants.{NoSlot, Ready}
@@ -23,4 +24,6 @@ refusal_of (Unlock user secret) facts = due (not facts.present) NoUser
 refusal_of (Lock user) facts = first_due (due (not facts.present) NoUser) (due (not facts.installed) NotInstalled)
 refusal_of (Protect user given fresh) facts =
     first_due (due (not facts.present) NoUser) (due facts.full NoSlot)
+refusal_of (Fixate user) facts = due (not facts.present) NoUser
+refusal_of (Destroy user) facts = due (not facts.present) NoUser
 refusal_of Recover facts = due facts.ready Ready

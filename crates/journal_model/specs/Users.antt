@@ -1,5 +1,7 @@
 -- The map of users: who is there, since when, and under which secret each slot is.
-use Rattle.std.specs.Prelude.{◌≡◌, ℕ, ◌+◌, ◌^◌, ◌||◌, max, Bool, nat_le, List, [], ◌∷◌, length, Option, Some, None}
+use Rattle.std.specs.Prelude.{◌≡◌, ◌≢◌, ℕ, ◌+◌, ◌^◌, ◌||◌, max, Bool, nat_le, List, [], ◌∷◌, length, Option, Some, None}
+use Rattle.std.specs.Prelude.{IsSome}
+use Rattle.std.specs.declared.cmp.Ordering.TheVariants.{Less}
 use Rattle.std.specs.Ordering.{nat_cmp}
 use Rattle.std.specs.FinMap as map
 use Rattle.tree_model.specs.Order.{slot_cmp}
@@ -7,7 +9,7 @@ use Rattle.tree_model.specs.declared.places.Slot.{Slot}
 use Rattle.tree_model.specs.declared.places.Slot.TheVariants.{Current, Cx}
 use Rattle.journal_model.specs.declared.entries.Birth.{Birth}
 use Rattle.journal_model.specs.declared.entries.Change.{Change}
-use Rattle.journal_model.specs.declared.entries.Change.TheVariants.{Create, Add}
+use Rattle.journal_model.specs.declared.entries.Change.TheVariants.{Create, Add, Drop, Settle, Destroy}
 
 -- the slots of a user, each with its secret
 abbrev pub Secrets : Type 0
@@ -57,20 +59,53 @@ next_slot known = Cx (next_number (map.keys known.secrets))
 abbrev pub with_slot : Record → Slot → List ℕ → Record
 with_slot known slot secret = record known { secrets = map.insert known.secrets slot secret }
 
+-- the record without a slot
+abbrev pub without_slot : Record → Slot → Record
+without_slot known slot = record known { secrets = map.remove known.secrets slot }
+
+-- the record with the slot's secret as that of the current slot, and without the slot
+abbrev pub moved_from : Secrets → Slot → Option (List ℕ) → Secrets
+moved_from secrets slot None = secrets
+moved_from secrets slot (Some secret) = map.insert (map.remove secrets slot) Current secret
+
+abbrev pub settled_slot : Record → Slot → Record
+settled_slot known slot = record known { secrets = moved_from known.secrets slot (map.get known.secrets slot) }
+
+-- the user has the slot and no other; and none that is newer
+pub record HasOnly (known : Record) (slot : Slot) : Type 0 where
+  pub there : IsSome (map.get known.secrets slot)
+  pub alone : (other : Slot) → other ≢ slot → map.get known.secrets other ≡ None
+
+pub record HasNewest (known : Record) (slot : Slot) : Type 0 where
+  pub there : IsSome (map.get known.secrets slot)
+  pub newest : (other : Slot) → slot_cmp slot other ≡ Less → map.get known.secrets other ≡ None
+
 -- a slot of the user is under the secret
 pub record HasSecret (known : Record) (secret : List ℕ) : Type 0 where
   pub slot : Slot
   pub under : map.get known.secrets slot ≡ Some secret
 
--- the map with a further slot of a user, who is there
-abbrev pub added : Users → ℕ → Slot → List ℕ → Option Record → Users
-added users user slot secret None = users
-added users user slot secret (Some known) = map.insert users user (with_slot known slot secret)
+-- a user's record edited, where the user is there
+abbrev pub edited : Option Record → (Record → Record) → Option Record
+edited None edit = None
+edited (Some known) edit = Some (edit known)
+
+-- the map with the user's record, where there is one
+abbrev pub with_record : Users → ℕ → Option Record → Users
+with_record users user None = users
+with_record users user (Some known) = map.insert users user known
+
+-- the map with the record of a user edited who is there
+abbrev pub with_edit : Users → ℕ → (Record → Record) → Users
+with_edit users user edit = with_record users user (edited (map.get users user) edit)
 
 -- the map after a change
 abbrev pub after_change : Users → Change → Users
 after_change users (Create user birth) = map.insert users user (record { birth = birth; secrets = new_secrets })
-after_change users (Add user slot secret) = added users user slot secret (map.get users user)
+after_change users (Add user slot secret) = with_edit users user (λ known. with_slot known slot secret)
+after_change users (Drop user slot) = with_edit users user (λ known. without_slot known slot)
+after_change users (Settle user slot) = with_edit users user (λ known. settled_slot known slot)
+after_change users (Destroy user) = map.remove users user
 
 -- the map after changes, in order
 abbrev pub folded : Users → List Change → Users
@@ -85,3 +120,6 @@ fold_changes changes = folded no_users changes
 abbrev pub owner_of : Change → ℕ
 owner_of (Create user birth) = user
 owner_of (Add user slot secret) = user
+owner_of (Drop user slot) = user
+owner_of (Settle user slot) = user
+owner_of (Destroy user) = user

@@ -79,6 +79,14 @@ pub enum Command {
         known: Secret,
         fresh: Secret,
     },
+    /// Keeps a user's newest slot alone, as the current one.
+    Fixate {
+        user: u32,
+    },
+    /// Takes a user's keys away, for good.
+    Destroy {
+        user: u32,
+    },
     /// Brings the machine up after a restart.
     Recover,
 }
@@ -91,6 +99,7 @@ impl Command {
         match self {
             Command::Create { user } | Command::Lock { user } => Actor::User(*user),
             Command::Unlock { user, .. } | Command::Protect { user, .. } => Actor::User(*user),
+            Command::Fixate { user } | Command::Destroy { user } => Actor::User(*user),
             Command::Recover => Actor::Boot,
         }
     }
@@ -121,6 +130,8 @@ impl Command {
                 known: known.duplicate(alloc)?,
                 fresh: fresh.duplicate(alloc)?,
             },
+            Command::Fixate { user } => Command::Fixate { user: *user },
+            Command::Destroy { user } => Command::Destroy { user: *user },
             Command::Recover => Command::Recover,
         })
     }
@@ -133,6 +144,8 @@ pub enum Reply {
     Done,
     /// A recovery ended, with this number of deletes made.
     Ended(u64),
+    /// The user is gone, and so is the keystore's entry of each blob that the user's directories named.
+    Gone,
     /// The user to be created was there when the command began.
     UserExists,
     /// The users that were there and those being created were as many as there may be when the command began.

@@ -3,7 +3,7 @@ ghost use Rattle.std.specs.Prelude.{◌≡◌, IfOk};
 use crate::commands::{Actor, Command, Reply};
 use crate::secrets::Secret;
 use std::alloc::Global;
-use tree_model::{Class, Cut, NoMemory, Slot};
+use tree_model::{Blob, Class, Cut, NoMemory, Slot};
 
 /// When a user was created: the boot, and the number of commands that the user's actor had begun in it before.
 #[derive(Clone, Copy, Debug, PartialEq, Eq)]
@@ -26,6 +26,20 @@ pub enum Change {
         slot: Slot,
         secret: Secret,
     },
+    /// The user no longer has the slot.
+    Drop {
+        user: u32,
+        slot: Slot,
+    },
+    /// The slot's secret is that of the current slot from now on, and the slot is gone.
+    Settle {
+        user: u32,
+        slot: Slot,
+    },
+    /// The user is no longer there.
+    Destroy {
+        user: u32,
+    },
 }
 
 impl Change {
@@ -43,6 +57,15 @@ impl Change {
                 slot: *slot,
                 secret: secret.duplicate(alloc)?,
             },
+            Change::Drop { user, slot } => Change::Drop {
+                user: *user,
+                slot: *slot,
+            },
+            Change::Settle { user, slot } => Change::Settle {
+                user: *user,
+                slot: *slot,
+            },
+            Change::Destroy { user } => Change::Destroy { user: *user },
         })
     }
 }
@@ -72,6 +95,10 @@ pub enum Entry {
     Evicted {
         user: u32,
         class: Class,
+    },
+    /// The blob's entry was deleted from the keystore.
+    Swept {
+        blob: Blob,
     },
     /// The machine stopped, and this number of changes survived.
     Stopped {

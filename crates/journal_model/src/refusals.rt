@@ -41,6 +41,7 @@ pub fn refusal(command: &Command, facts: Facts) -> Option<Reply>
         Command::Protect { .. } => {
             due(!facts.present, Reply::NoUser).or(due(facts.full, Reply::NoSlot))
         }
+        Command::Fixate { .. } | Command::Destroy { .. } => due(!facts.present, Reply::NoUser),
         Command::Recover => due(facts.ready, Reply::Ready),
     }
 }

@@ -3,11 +3,14 @@ ghost use Rattle.std.specs.FinMap.{keys, entries, get};
 ghost use Rattle.sorted_map.specs.Rows.{keys as keys_of_rows, IsSorted, StandsAt, BelongsAt};
 ghost use Rattle.tree_model.specs.Order.{slot_cmp};
 ghost use Rattle.journal_model.specs.declared.entries.Change.TheVariants.{Create as Created, Add as Added};
+ghost use Rattle.journal_model.specs.declared.entries.Change.TheVariants.{Drop as Dropped, Settle as Settled};
+ghost use Rattle.journal_model.specs.declared.entries.Change.TheVariants.{Destroy as Destroyed};
 ghost use Rattle.journal_model.specs.Command.{user_in};
 ghost use Rattle.journal_model.specs.DefinedReply.{defined_reply_of};
 ghost use Rattle.journal_model.specs.Log.{log_after};
 ghost use Rattle.journal_model.specs.Machine.{is_present, is_full, log_of, map_of};
-ghost use Rattle.journal_model.specs.Users.{no_users, new_secrets, with_slot, after_change};
+ghost use Rattle.journal_model.specs.Users.{no_users, new_secrets, with_slot, without_slot, settled_slot};
+ghost use Rattle.journal_model.specs.Users.{after_change};
 
 use crate::commands::{Command, Reply};
 use crate::entries::{Birth, Change, Entry};
@@ -62,6 +65,27 @@ impl UserRecord {
                 Ok(())
             }
             Err(at) => Ok(self.slots.insert(at, (slot, secret))?),
+        }
+    }
+
+    /// Takes the slot out, and gives its secret; None where it isn't there.
+    fn take(&mut self, slot: Slot) -> Option<Secret>
+        ensures value { result ≡ get self.old.secrets slot }
+        ensures rest { self.new ≡ without_slot self.old slot }
+    {
+        match place_of(self.slots.as_slice(), slot) {
+            Ok(at) => Some(self.slots.remove(at).1),
+            Err(_) => None,
+        }
+    }
+
+    /// The slot, where it is there, is the current one from now on.
+    fn settle(&mut self, slot: Slot) -> Result<(), NoMemory>
+        ensures { OnOk result (self.new ≡ settled_slot self.old slot) }
+    {
+        match self.take(slot) {
+            Some(secret) => self.put(Slot::Current, secret),
+            None => Ok(()),
         }
     }
 }
@@ -134,6 +158,12 @@ impl UserMap {
         match change {
             Change::Create { user, birth } => self.create(alloc, *user, *birth),
             Change::Add { user, slot, secret } => self.add(*user, *slot, secret.duplicate(alloc)?),
+            Change::Drop { user, slot } => self.drop_slot(*user, *slot),
+            Change::Settle { user, slot } => self.settle(*user, *slot),
+            Change::Destroy { user } => {
+                self.destroy(*user);
+                Ok(())
+            }
         }
     }
 
@@ -155,6 +185,37 @@ impl UserMap {
         known.put(slot, secret)?;
         self.records.insert(user, known)?;
         Ok(())
+    }
+
+    /// The user, where there is one, no longer has the slot.
+    fn drop_slot(&mut self, user: u32, slot: Slot) -> Result<(), NoMemory>
+        ensures { OnOk result (self.new ≡ after_change self.old (Dropped user slot)) }
+    {
+        let Some(mut known) = self.records.remove(user) else {
+            return Ok(());
+        };
+        known.take(slot);
+        self.records.insert(user, known)?;
+        Ok(())
+    }
+
+    /// The slot of the user, where both are there, is the current one from now on.
+    fn settle(&mut self, user: u32, slot: Slot) -> Result<(), NoMemory>
+        ensures { OnOk result (self.new ≡ after_change self.old (Settled user slot)) }
+    {
+        let Some(mut known) = self.records.remove(user) else {
+            return Ok(());
+        };
+        known.settle(slot)?;
+        self.records.insert(user, known)?;
+        Ok(())
+    }
+
+    /// The user is no longer there.
+    fn destroy(&mut self, user: u32)
+        ensures { self.new ≡ after_change self.old (Destroyed user) }
+    {
+        self.records.remove(user);
     }
 }
 
@@ -435,6 +496,44 @@ mod tests {
         let mut journal = Journal::new(alloc);
         journal.reserve()?;
         journal.push(addition(alloc, 0, 5)?);
+        assert!(rt; fold(alloc, &journal)?.users().is_empty());
+        Ok(())
+    }
+
+    /// The journal with further changes.
+    fn continued(
+        alloc: Global,
+        mut journal: Journal,
+        changes: &[Change],
+    ) -> Result<Journal, NoMemory> {
+        for change in changes {
+            journal.reserve()?;
+            journal.push(Entry::Changed {
+                number: 0,
+                change: change.duplicate(alloc)?,
+            });
+        }
+        Ok(journal)
+    }
+
+    #[test]
+    fn drops_settles_and_destroys(rt: HostRuntime) -> Result<(), Fail> {
+        let alloc = rt.alloc();
+        let user = 10;
+        let slot = Slot::Cx(1);
+        let dropped = [0, 7].map(|number| Change::Drop {
+            user,
+            slot: Slot::Cx(number),
+        });
+        let journal = continued(alloc, slotted_journal(alloc, &[(0, 5), (1, 7)])?, &dropped)?;
+        let wanted: [(Slot, &[u8]); 2] = [(Slot::Current, &[]), (slot, &[7])];
+        assert!(rt; has_slots(&fold(alloc, &journal)?, &wanted));
+
+        let settled = [Slot::Current, slot, slot].map(|slot| Change::Settle { user, slot });
+        let journal = continued(alloc, journal, &settled)?;
+        assert!(rt; has_slots(&fold(alloc, &journal)?, &[(Slot::Current, &[7])]));
+
+        let journal = continued(alloc, journal, &[Change::Destroy { user }])?;
         assert!(rt; fold(alloc, &journal)?.users().is_empty());
         Ok(())
     }

@@ -1,6 +1,7 @@
 pub mod Adding
 pub mod Apart
 pub mod Births
+pub mod Dropping
 pub mod Fitting
 pub mod Lasting
 pub mod Opened

@@ -14,7 +14,7 @@ use Rattle.journal_model.specs.Machine.{Machine, Running, first_machine, after_e
 use Rattle.journal_model.specs.Users.{Record, fold_changes, owner_of}
 use Rattle.keystore_model.proofs.Elements.{Contains-none, Contains-first, Contains-cases}
 use Rattle.user_world.specs.declared.changes.LocalChange.{LocalChange}
-use Rattle.user_world.specs.declared.changes.LocalChange.TheVariants.{Born, Added}
+use Rattle.user_world.specs.declared.changes.LocalChange.TheVariants.{Added}
 use Rattle.user_world.specs.Changes.{local_of}
 use Rattle.key_directory.specs.Tried.{not_empty, given_by, addition, additions_of, if_of, added_by, attempts_after}
 use Rattle.key_directory.specs.Tried.{attempts_from, attempts_of, LawOfTried, secrets_of, added_under, secrets_in}
@@ -112,9 +112,9 @@ module _ (seed : List ℕ) (user : ℕ) where
   -- what a change adds is under a secret that it names
   change-under : (made : Birth) (known : Option Record) (change : LocalChange) (added : Addition)
       → Contains (additions_of seed user made known change) added → Contains (added_under change) added.secret
-  change-under made known (Born birth) added has = absurd (Contains-none added has)
   change-under made None (Added slot secret) added has = absurd (Contains-none added has)
   change-under made (Some known) (Added slot secret) added has = addition-under known.birth made secret added has
+  change-under made known change added has = absurd (Contains-none added has)
 
   running-under : (machine : Machine) (found : Option Running) (change : LocalChange) (added : Addition)
       → Contains (if_running found [] (λ running. additions_of seed user

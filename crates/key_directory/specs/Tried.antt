@@ -15,7 +15,7 @@ use Rattle.journal_model.specs.Machine.{Machine, first_machine, after_entry, if_
 use Rattle.journal_model.specs.Made.{key_of, nonce_of, discardable_of}
 use Rattle.journal_model.specs.Users.{Record, fold_changes, owner_of}
 use Rattle.user_world.specs.declared.changes.LocalChange.{LocalChange}
-use Rattle.user_world.specs.declared.changes.LocalChange.TheVariants.{Born, Added}
+use Rattle.user_world.specs.declared.changes.LocalChange.TheVariants.{Added}
 use Rattle.user_world.specs.Changes.{local_of}
 use Rattle.key_directory.specs.Vaults.{Addition, Attempts, NoChanceMatch, Extends}
 
@@ -41,9 +41,9 @@ addition seed user born made secret = record {
 
 -- the directories under secrets that a change of a user adds
 abbrev pub additions_of : List ℕ → ℕ → Birth → Option Record → LocalChange → List Addition
-additions_of seed user made known (Born birth) = []
 additions_of seed user made known (Added slot secret) =
     if_there known [] (λ (user_known : Record). map (addition seed user user_known.birth made) (not_empty secret))
+additions_of seed user made known change = []
 
 -- items of a user alone
 abbrev pub if_of : {A : Type 0} → ℕ → Option ℕ → List A → List A
@@ -98,8 +98,8 @@ secrets_of (Protect user given fresh) = not_empty given ++ not_empty fresh
 secrets_of command = []
 
 abbrev pub added_under : LocalChange → List (List ℕ)
-added_under (Born birth) = []
 added_under (Added slot secret) = not_empty secret
+added_under change = []
 
 abbrev pub secrets_in : ℕ → Entry → List (List ℕ)
 secrets_in user (Began number actor command) = if_of user (user_in command) (secrets_of command)

@@ -1,6 +1,6 @@
 -- The laws of sealed directories: what is stored opens, what stands goes on standing while its entries stay, and no
 -- two standing directories name one blob.
-use Rattle.std.specs.Prelude.{◌≡◌, ◌≤◌, ℕ, List, [], ◌∷◌, length, take, Option, Some, None}
+use Rattle.std.specs.Prelude.{◌≡◌, ◌≤◌, ℕ, List, [], ◌∷◌, length, take, Option, Some, None, IsSome}
 use Rattle.tree_model.specs.declared.blobs.Blob.{Blob}
 use Rattle.tree_model.specs.declared.places.Class.TheVariants.{De as ForDe, Ce as ForCe}
 use Rattle.tree_model.specs.declared.places.Slot.{Slot}
@@ -12,7 +12,7 @@ use Rattle.tree_model.specs.declared.files.FileName.TheVariants.{Version, Encryp
 use Rattle.tree_model.specs.declared.files.FileName.TheVariants.{BlobNew, Discard, Stretching, Salt}
 use Rattle.tree_model.specs.Disk.{Disk, IsImage}
 use Rattle.tree_model.specs.Held.{Held, held_in}
-use Rattle.tree_model.specs.declared.sites.LocalOp.TheVariants.{RenameDir}
+use Rattle.tree_model.specs.declared.sites.LocalOp.TheVariants.{RenameDir, RemoveDir}
 use Rattle.tree_model.specs.Parts.{Part, part_of, standing, after_local}
 use Rattle.tree_model.specs.Tree.{Tree}
 use Rattle.journal_model.specs.declared.entries.Birth.{Birth}
@@ -20,7 +20,7 @@ use Rattle.journal_model.specs.declared.entries.Change.{Change}
 use Rattle.journal_model.specs.Hashes.{app_id_of, wrap_key_of}
 use Rattle.journal_model.specs.Made.{key_of}
 use Rattle.seal_model.specs.Sealed.{sealed_text}
-use Rattle.journal_model.specs.Users.{Record, Users, new_secrets, with_slot}
+use Rattle.journal_model.specs.Users.{Record, Users, new_secrets, with_slot, without_slot, settled_slot}
 use Rattle.keystore_model.specs.declared.entry.StoreEntry.{StoreEntry}
 use Rattle.keystore_model.specs.Store.{entry_of}
 use Rattle.user_world.specs.Images.{ImagesStand}
@@ -109,3 +109,16 @@ abbrev pub LawOfAdding : Type 0
 LawOfAdding = (vault : Vault) (user : ℕ) (part : Part) (known : Record) (slot : Slot) (secret : List ℕ)
     → SealedStands vault user (standing part) known → IsFurther vault user part known slot secret
     → SealedStands vault user (standing (after_local part (RenameDir Temp (Ce slot)))) (with_slot known slot secret)
+
+-- once a slot's directory is removed, the user stands without the slot
+abbrev pub LawOfDropping : Type 0
+LawOfDropping = (vault : Vault) (user : ℕ) (part : Part) (known : Record) (slot : Slot)
+    → SealedStands vault user (standing part) known
+    → SealedStands vault user (standing (after_local part (RemoveDir (Ce slot)))) (without_slot known slot)
+
+-- once a slot's directory is the current one, where there was none, its secret is the current slot's
+abbrev pub LawOfSettling : Type 0
+LawOfSettling = (vault : Vault) (user : ℕ) (part : Part) (known : Record) (slot : Slot)
+    → SealedStands vault user (standing part) known → IsSome (part (Ce slot)) → part (Ce Current) ≡ None
+    → SealedStands vault user (standing (after_local part (RenameDir (Ce slot) (Ce Current))))
+    (settled_slot known slot)

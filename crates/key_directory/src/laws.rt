@@ -1,6 +1,7 @@
 ghost use Rattle.key_directory.specs.Opened.{LawOfFitting, LawOfSlots, LawOfWrongSecrets, LawOfKeptOpening};
 ghost use Rattle.key_directory.specs.Tried.{LawOfTried, LawOfOneSecret};
 ghost use Rattle.key_directory.specs.VaultLaws.{StoredOpens, LawOfBirths, LawOfAdding, LawOfLater, LawOfNames};
+ghost use Rattle.key_directory.specs.VaultLaws.{LawOfDropping, LawOfSettling};
 
 /// A directory as it is stored opens with its secret to its key.
 pub fn law_of_storing()
@@ -56,4 +57,14 @@ pub fn law_of_wrong_secrets()
 /// A directory goes on opening to what it opened to, or to nothing.
 pub fn law_of_kept_opening()
     ensures { LawOfKeptOpening }
+{}
+
+/// Once a slot's directory is removed, the user stands without the slot.
+pub fn law_of_dropping()
+    ensures { LawOfDropping }
+{}
+
+/// Once a slot's directory is the current one, its secret is the current slot's.
+pub fn law_of_settling()
+    ensures { LawOfSettling }
 {}

@@ -3,8 +3,8 @@ use Rattle.std.specs.Prelude.{ℕ, true, List, [], ◌∷◌, codes}
 use Rattle.script_text.specs.declared.arguments.Kind.TheVariants as kind
 use Rattle.script_text.specs.declared.arguments.Kinds.{Kinds}
 use Rattle.script_text.specs.declared.forms.Keyword.{Keyword}
-use Rattle.script_text.specs.declared.forms.Keyword.TheVariants.{Seed, Create, Unlock, Lock, Protect, Recover}
-use Rattle.script_text.specs.declared.forms.Keyword.TheVariants.{Turn, All, Stop, Restart}
+use Rattle.script_text.specs.declared.forms.Keyword.TheVariants.{Seed, Create, Unlock, Lock, Protect, Fixate}
+use Rattle.script_text.specs.declared.forms.Keyword.TheVariants.{Destroy, Recover, Turn, All, Stop, Restart}
 use Rattle.script_text.specs.Arguments.{no_kinds, one_kind, two_kinds, three_kinds, any_number}
 
 -- the table of the words
@@ -14,6 +14,8 @@ form_of Create = (codes "create", one_kind any_number)
 form_of Unlock = (codes "unlock", two_kinds any_number kind.Bytes)
 form_of Lock = (codes "lock", one_kind any_number)
 form_of Protect = (codes "protect", three_kinds any_number kind.Bytes kind.Bytes)
+form_of Fixate = (codes "fixate", one_kind any_number)
+form_of Destroy = (codes "destroy", one_kind any_number)
 form_of Recover = (codes "recover", one_kind kind.Never)
 form_of Turn = (codes "turn", two_kinds kind.Actor (kind.Number 1 4096))
 form_of All = (codes "all", no_kinds)
@@ -22,7 +24,8 @@ form_of Restart = (codes "restart", one_kind (kind.Number 1 1))
 
 -- all of them
 abbrev pub every : List Keyword
-every = Seed ∷ Create ∷ Unlock ∷ Lock ∷ Protect ∷ Recover ∷ Turn ∷ All ∷ Stop ∷ Restart ∷ []
+every =
+    Seed ∷ Create ∷ Unlock ∷ Lock ∷ Protect ∷ Fixate ∷ Destroy ∷ Recover ∷ Turn ∷ All ∷ Stop ∷ Restart ∷ []
 
 -- the word of a line
 abbrev pub word_of : Keyword → List ℕ

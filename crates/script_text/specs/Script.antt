@@ -2,7 +2,8 @@
 use Rattle.std.specs.Prelude.{◌≡◌, ◌≢◌, ℕ, ◌<◌, ◌≤◌, ◌^◌, Bool, true, false, IsTrue, not, List, [], ◌∷◌, ◌++◌}
 use Rattle.std.specs.Prelude.{length, Option, Some, None, is_none}
 use Rattle.std.specs.List.{flat_map, AllByRecursion}
-use Rattle.journal_model.specs.declared.commands.Command.TheVariants.{Create, Unlock, Lock, Protect, Recover}
+use Rattle.journal_model.specs.declared.commands.Command.TheVariants.{Create, Unlock, Lock, Protect, Fixate}
+use Rattle.journal_model.specs.declared.commands.Command.TheVariants.{Destroy, Recover}
 use Rattle.script_text.specs.declared.arguments.Argument.TheVariants as argument
 use Rattle.script_text.specs.declared.arguments.Arguments.{Arguments}
 use Rattle.script_text.specs.declared.forms.Keyword.{Keyword}
@@ -22,6 +23,8 @@ row_of (Do (Unlock user secret)) = (keyword.Unlock, two_given (argument.Number u
 row_of (Do (Lock user)) = (keyword.Lock, one_given (argument.Number user))
 row_of (Do (Protect user known fresh)) =
     (keyword.Protect, three_given (argument.Number user) (argument.Bytes known) (argument.Bytes fresh))
+row_of (Do (Fixate user)) = (keyword.Fixate, one_given (argument.Number user))
+row_of (Do (Destroy user)) = (keyword.Destroy, one_given (argument.Number user))
 row_of (Do Recover) = (keyword.Recover, none_given)
 row_of (Turns actor count) = (keyword.Turn, two_given (argument.Actor actor) (argument.Number count))
 row_of All = (keyword.All, none_given)

@@ -20,6 +20,8 @@ pub enum Keyword {
     Unlock,
     Lock,
     Protect,
+    Fixate,
+    Destroy,
     Recover,
     Turn,
     All,
@@ -44,12 +46,14 @@ const LEVEL: Kind = Kind::Number { least: 1, most: 1 };
 
 impl Keyword {
     /// All of them.
-    const EVERY: [Keyword; 10] = [
+    const EVERY: [Keyword; 12] = [
         Keyword::Seed,
         Keyword::Create,
         Keyword::Unlock,
         Keyword::Lock,
         Keyword::Protect,
+        Keyword::Fixate,
+        Keyword::Destroy,
         Keyword::Recover,
         Keyword::Turn,
         Keyword::All,
@@ -71,6 +75,8 @@ impl Keyword {
                 b"protect",
                 Kinds::three(ANY_NUMBER, Kind::Bytes, Kind::Bytes),
             ),
+            Keyword::Fixate => (b"fixate", Kinds::one(ANY_NUMBER)),
+            Keyword::Destroy => (b"destroy", Kinds::one(ANY_NUMBER)),
             Keyword::Recover => (b"recover", Kinds::one(Kind::Never)),
             Keyword::Turn => (b"turn", Kinds::two(Kind::Actor, COUNT)),
             Keyword::All => (b"all", Kinds::none()),
@@ -134,6 +140,12 @@ impl Keyword {
                 user: first.number(),
                 known: second.into_secret(alloc),
                 fresh: third.into_secret(alloc),
+            }),
+            Keyword::Fixate => Line::Do(Command::Fixate {
+                user: first.number(),
+            }),
+            Keyword::Destroy => Line::Do(Command::Destroy {
+                user: first.number(),
             }),
             Keyword::Recover => Line::Do(Command::Recover),
             Keyword::Turn => Line::Turns(first.actor(), second.number()),

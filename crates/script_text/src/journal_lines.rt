@@ -51,6 +51,9 @@ fn push_entry(alloc: Global, out: &mut Vec<u8>, entry: &Entry) -> Result<(), NoM
             let class = Shown::Text(text_of_class(*class));
             Row::two(b"evicted", small(*user), class).push(alloc, out)?;
         }
+        Entry::Swept { blob } => {
+            Row::one(b"swept", Shown::Bytes(&blob.bytes())).push(alloc, out)?;
+        }
         Entry::Stopped { kept } => Row::one(b"stopped", Shown::Number(*kept)).push(alloc, out)?,
         Entry::Restarted { boot, level } => {
             Row::two(b"restarted", Shown::Number(*boot), small(*level)).push(alloc, out)?;
@@ -75,6 +78,18 @@ fn row_of_change(change: &Change) -> Row<'_>
             let secret = Shown::Bytes(secret.as_slice());
             Row::three(b"add", small(*user), Shown::Slot(*slot), secret)
         }
+        Change::Drop { user, slot } => {
+            let slot = Shown::Slot(*slot);
+            Row::three(b"drop", small(*user), slot, Shown::Nothing)
+        }
+        Change::Settle { user, slot } => {
+            let slot = Shown::Slot(*slot);
+            Row::three(b"settle", small(*user), slot, Shown::Nothing)
+        }
+        Change::Destroy { user } => {
+            let user = small(*user);
+            Row::three(b"destroy", user, Shown::Nothing, Shown::Nothing)
+        }
     }
 }
 
@@ -83,6 +98,7 @@ fn row_of_reply(reply: Reply) -> Row<'static>
 {
     match reply {
         Reply::Done => Row::alone(b"ok"),
+        Reply::Gone => Row::alone(b"gone"),
         Reply::Ended(count) => Row::one(b"ok", Shown::Number(count)),
         Reply::UserExists => Row::alone(b"user-exists"),
         Reply::TooManyUsers => Row::alone(b"too-many-users"),

@@ -65,6 +65,12 @@ pub fn push_command(alloc: Global, out: &mut Vec<u8>, command: &Command) -> Resu
             let fresh = Shown::Bytes(fresh.as_slice());
             Row::three(Keyword::Protect.text(), number(*user), known, fresh).push(alloc, out)
         }
+        Command::Fixate { user } => {
+            Row::one(Keyword::Fixate.text(), number(*user)).push(alloc, out)
+        }
+        Command::Destroy { user } => {
+            Row::one(Keyword::Destroy.text(), number(*user)).push(alloc, out)
+        }
         Command::Recover => Row::alone(Keyword::Recover.text()).push(alloc, out),
     }
 }

@@ -13,7 +13,7 @@ use Rattle.user_world.specs.declared.changes.LocalChange.{LocalChange}
 use Rattle.user_world.specs.Changes.{known_through, known_with}
 use Rattle.user_world.specs.OwnWorlds.{Step, OwnWorld, own_view, own_log, with_step, settled}
 use Rattle.user_world.specs.Facts.{Later, Fact, Knows, Logged, Durable, Still, Here, Always, HereAt, AlwaysAt, Holds}
-use Rattle.user_world.specs.Facts.{AllHold}
+use Rattle.user_world.specs.Facts.{Sites, Vacant, AllHold}
 use Rattle.user_world.proofs.OwnWorlds.{view-step, log-step, record-step, log-settled, image-step, view-image}
 
 settled-fact : (fact : Fact) (own : OwnWorld) → Holds fact own → Holds fact (settled own)
@@ -26,6 +26,9 @@ settled-fact (Always part) own holds = λ left is. is ∙ holds (own_view own) (
 settled-fact (HereAt site held) own holds = holds
 settled-fact (AlwaysAt site held) own holds = λ left is.
     ap (λ part. part site) is ∙ holds (own_view own) (view-image own.stable own.pending)
+settled-fact (Sites sites) own holds = record { there = holds.there; all = holds.all }
+settled-fact Vacant own holds = λ left site is.
+    ap (λ part. part site) is ∙ holds (own_view own) site (view-image own.stable own.pending)
 
 later-fact : (fact : Fact) (before after : OwnWorld) → Later before after → Holds fact before → Holds fact after
 later-fact fact before after later holds = elim later [

@@ -31,7 +31,7 @@ use Rattle.user_world.specs.Timelines.{OwnWorldsStand, line_with, settled_line, 
 use Rattle.user_world.specs.Turns.{StepShows}
 use Rattle.user_world.proofs.OwnWorlds.{view-stands, known_through-append, images-step}
 use Rattle.user_world.proofs.Worlds.{cases_owner, part-applied, changes-steps, changes_for-append, log-own, known-own}
-use Rattle.user_world.proofs.Worlds.{own-step, own-other, own-settled, contains-of, none-of, local-change_of}
+use Rattle.user_world.proofs.Worlds.{own-step, own-other, own-settled, contains-of, none-of, none-for, local-change_of}
 use Rattle.user_world.proofs.Product.{product, fronts, ops-take, cut, front-length, shown}
 
 -- a world is the one that its timeline shows
@@ -280,9 +280,16 @@ module _ (user : ℕ) (world : World) (line : Timeline) (shows : IsWorldOf world
       subst (λ cs. Contains cs (change_of user change)) (sym shows.is_log)
       (contains-of user (log_of world) change (subst (λ cs. Contains cs change) (sym (log-own user world)) holds))
 
+  undurable : drop line.kept line.log ≡ changes_of world.pending
+  undurable = ap (λ n. drop n line.log) shows.is_kept ∙ ap (drop (length world.durable)) shows.is_log
+      ∙ drop-append_seam world.durable (changes_of world.pending)
+
+  pub durable-held : NoChangeOf user (drop line.kept line.log) → Holds Durable (own user world)
+  durable-held none = sym (changes-steps user world.pending)
+      ∙ none-for user (changes_of world.pending) (subst (NoChangeOf user) undurable none)
+
   pub durable-shown : Holds Durable (own user world) → NoChangeOf user (drop line.kept line.log)
   durable-shown holds =
       subst (NoChangeOf user)
-      (sym (ap (λ n. drop n line.log) shows.is_kept ∙ ap (drop (length world.durable)) shows.is_log
-      ∙ drop-append_seam world.durable (changes_of world.pending)))
+      (sym undurable)
       (none-of user (changes_of world.pending) (changes-steps user world.pending ∙ holds))

@@ -17,15 +17,16 @@ use Rattle.tree_model.specs.Tree.{Tree, after_op, applied}
 use Rattle.tree_model.specs.Disk.{filled}
 use Rattle.tree_model.specs.Sites.{op_of}
 use Rattle.tree_model.specs.Parts.{part_of, after_local, filled_local}
-use Rattle.tree_model.proofs.Maps.{get-insert_same, get-insert_other}
+use Rattle.tree_model.proofs.Maps.{get-insert_same, get-insert_other, get-remove_same, get-remove_other}
 use Rattle.tree_model.proofs.Parts.{part-own_filled, part-other_filled}
 use Rattle.journal_model.specs.declared.entries.Change.{Change}
-use Rattle.journal_model.specs.declared.entries.Change.TheVariants.{Create, Add}
+use Rattle.journal_model.specs.declared.entries.Change.TheVariants.{Create, Add, Drop, Settle, Destroy}
 use Rattle.journal_model.specs.Machine.{NoChangeOf}
-use Rattle.journal_model.specs.Users.{Record, Users, no_users, added, after_change, folded, fold_changes, owner_of}
+use Rattle.journal_model.specs.Users.{Record, Users, no_users, edited, with_record, with_edit, with_slot, without_slot}
+use Rattle.journal_model.specs.Users.{settled_slot, after_change, folded, fold_changes, owner_of}
 use Rattle.user_world.specs.declared.changes.LocalChange.{LocalChange}
-use Rattle.user_world.specs.declared.changes.LocalChange.TheVariants.{Born, Added}
-use Rattle.user_world.specs.Changes.{change_of, local_of, with_added, known_after, known_through}
+use Rattle.user_world.specs.declared.changes.LocalChange.TheVariants.{Born, Added, Dropped, Settled, Destroyed}
+use Rattle.user_world.specs.Changes.{change_of, local_of, known_after, known_through}
 use Rattle.user_world.specs.Changes.{changes_for, if_noted}
 use Rattle.user_world.specs.OwnWorlds.{Step, notes, part_after, own_view, own_log, with_step, settled}
 use Rattle.user_world.specs.Worlds.{Owned, World, ops_of, changes_of, log_of, steps_of, own, with_owned, settled_world}
@@ -72,6 +73,9 @@ pub noted-for : (user owner : ℕ) (note : Option LocalChange) (changes : List C
 noted-for user owner None changes = same_branches (owner == user) (changes_for user changes)
 noted-for user owner (Some (Born birth)) changes = refl
 noted-for user owner (Some (Added slot secret)) changes = refl
+noted-for user owner (Some (Dropped slot)) changes = refl
+noted-for user owner (Some (Settled slot)) changes = refl
+noted-for user owner (Some Destroyed) changes = refl
 
 -- the user's changes among the pending ones are those that the user's steps note
 pub changes-steps : (user : ℕ) (pending : List Owned)
@@ -137,28 +141,44 @@ module _ (user : ℕ) (world : World) where
       (part-applied user world.stable world.pending)
       ∙ ap (λ changes. record { stable = own_view (own user world); durable = changes; pending = [] }) log-own
 
--- a change is of its owner's record alone
+-- an edit of an owner's record is of that record alone
+module _ (users : Users) (owner : ℕ) (edit : Record → Record) where
+  edit-mine : map.get (with_edit users owner edit) owner ≡ edited (map.get users owner) edit
+  edit-mine = elim (map.get users owner) as (λ (found : Option Record). map.get users owner ≡ found
+      → map.get (with_record users owner (edited found edit)) owner ≡ edited found edit) [
+        | None ↦ λ none. none
+        | Some known ↦ λ is. get-insert_same nat_cmp_total nat_cmp-IsAntisymmetric users owner _
+      ] refl
+
+  edit-theirs : (user : ℕ) → owner ≢ user → map.get (with_edit users owner edit) user ≡ map.get users user
+  edit-theirs user differ = elim (map.get users owner) as (λ (found : Option Record).
+      map.get (with_record users owner (edited found edit)) user ≡ map.get users user) [
+        | None ↦ refl
+        | Some known ↦ get-insert_other nat_cmp_total nat_cmp-IsAntisymmetric users owner _ user (λ e. differ (sym e))
+      ]
+
+-- so is a change
 change-mine : (users : Users) (change : Change)
     → map.get (after_change users change) (owner_of change)
     ≡ known_after (map.get users (owner_of change)) (local_of change)
 change-mine users (Create owner birth) = get-insert_same nat_cmp_total nat_cmp-IsAntisymmetric users owner _
-change-mine users (Add owner slot secret) =
-    elim (map.get users owner) as (λ (found : Option Record). map.get users owner ≡ found
-    → map.get (added users owner slot secret found) owner ≡ with_added found slot secret) [
-      | None ↦ λ none. none
-      | Some known ↦ λ is. get-insert_same nat_cmp_total nat_cmp-IsAntisymmetric users owner _
-    ] refl
+change-mine users (Add owner slot secret) = edit-mine users owner (λ known. with_slot known slot secret)
+change-mine users (Drop owner slot) = edit-mine users owner (λ known. without_slot known slot)
+change-mine users (Settle owner slot) = edit-mine users owner (λ known. settled_slot known slot)
+change-mine users (Destroy owner) = get-remove_same nat_cmp_total nat_cmp-IsAntisymmetric users owner
 
 pub change-theirs : (users : Users) (change : Change) (user : ℕ) → owner_of change ≢ user
     → map.get (after_change users change) user ≡ map.get users user
 change-theirs users (Create owner birth) user differ =
     get-insert_other nat_cmp_total nat_cmp-IsAntisymmetric users owner _ user (λ e. differ (sym e))
 change-theirs users (Add owner slot secret) user differ =
-    elim (map.get users owner) as (λ (found : Option Record). map.get (added users owner slot secret found) user
-    ≡ map.get users user) [
-      | None ↦ refl
-      | Some known ↦ get-insert_other nat_cmp_total nat_cmp-IsAntisymmetric users owner _ user (λ e. differ (sym e))
-    ]
+    edit-theirs users owner (λ known. with_slot known slot secret) user differ
+change-theirs users (Drop owner slot) user differ =
+    edit-theirs users owner (λ known. without_slot known slot) user differ
+change-theirs users (Settle owner slot) user differ =
+    edit-theirs users owner (λ known. settled_slot known slot) user differ
+change-theirs users (Destroy owner) user differ =
+    get-remove_other nat_cmp_total nat_cmp-IsAntisymmetric users owner user (λ e. differ (sym e))
 
 -- what the changes make of the user is what the user's changes make
 known-folded : (user : ℕ) (users : Users) (changes : List Change)
@@ -183,6 +203,9 @@ known-own user changes =
 change_of-local : (change : Change) → change ≡ change_of (owner_of change) (local_of change)
 change_of-local (Create user birth) = refl
 change_of-local (Add user slot secret) = refl
+change_of-local (Drop user slot) = refl
+change_of-local (Settle user slot) = refl
+change_of-local (Destroy user) = refl
 
 -- a change of the user's is a change of all, and the other way round
 pub contains-of : (user : ℕ) (changes : List Change) (change : LocalChange)
@@ -214,6 +237,12 @@ none-of user (change ∷ changes) none =
     → NoChangeOf user (change ∷ changes))
     (λ same none. cc) (λ differ none. (differ, none-of user changes none)) none
 
+pub none-for : (user : ℕ) (changes : List Change) → NoChangeOf user changes → changes_for user changes ≡ []
+none-for user [] none = refl
+none-for user (change ∷ changes) none = cases_owner (owner_of change) user
+    (λ t. cond t (local_of change ∷ changes_for user changes) (changes_for user changes) ≡ [])
+    (λ same. absurd (none.0 same)) (λ differ. none-for user changes none.1)
+
 -- an owned change is one of its owner's local changes
 pub owned-change : (change : Change) (user : ℕ) → owner_of change ≡ user → change_of user (local_of change) ≡ change
 owned-change change user is = ap (λ u. change_of u (local_of change)) (sym is) ∙ sym (change_of-local change)
@@ -221,7 +250,13 @@ owned-change change user is = ap (λ u. change_of u (local_of change)) (sym is) 
 pub owner-change_of : (user : ℕ) (change : LocalChange) → owner_of (change_of user change) ≡ user
 owner-change_of user (Born birth) = refl
 owner-change_of user (Added slot secret) = refl
+owner-change_of user (Dropped slot) = refl
+owner-change_of user (Settled slot) = refl
+owner-change_of user Destroyed = refl
 
 pub local-change_of : (user : ℕ) (change : LocalChange) → local_of (change_of user change) ≡ change
 local-change_of user (Born birth) = refl
 local-change_of user (Added slot secret) = refl
+local-change_of user (Dropped slot) = refl
+local-change_of user (Settled slot) = refl
+local-change_of user Destroyed = refl

@@ -1,34 +1,41 @@
 -- A change split into whose it is and what it is to that user, and what changes make of the user's record.
 use Rattle.std.specs.Prelude.{ℕ, ◌==◌, cond, List, [], ◌∷◌, Option, Some, None}
-use Rattle.tree_model.specs.declared.places.Slot.{Slot}
-use Rattle.tree_model.specs.Tree.{Kind, Create as Creates, Add as Adds}
+use Rattle.tree_model.specs.Tree.{Kind, Create as Creates, Add as Adds, Drop as Drops, Settle as Settles}
+use Rattle.tree_model.specs.Tree.{Destroy as Destroys}
 use Rattle.journal_model.specs.declared.entries.Change.{Change}
-use Rattle.journal_model.specs.declared.entries.Change.TheVariants.{Create, Add}
-use Rattle.journal_model.specs.Users.{Record, new_secrets, owner_of, with_slot}
+use Rattle.journal_model.specs.declared.entries.Change.TheVariants.{Create, Add, Drop, Settle, Destroy}
+use Rattle.journal_model.specs.Users.{Record, new_secrets, owner_of, with_slot, without_slot, settled_slot, edited}
 use Rattle.user_world.specs.declared.changes.LocalChange.{LocalChange}
-use Rattle.user_world.specs.declared.changes.LocalChange.TheVariants.{Born, Added}
+use Rattle.user_world.specs.declared.changes.LocalChange.TheVariants.{Born, Added, Dropped, Settled, Destroyed}
 
 abbrev pub change_of : ℕ → LocalChange → Change
 change_of user (Born birth) = Create user birth
 change_of user (Added slot secret) = Add user slot secret
+change_of user (Dropped slot) = Drop user slot
+change_of user (Settled slot) = Settle user slot
+change_of user Destroyed = Destroy user
 
 abbrev pub local_of : Change → LocalChange
 local_of (Create user birth) = Born birth
 local_of (Add user slot secret) = Added slot secret
+local_of (Drop user slot) = Dropped slot
+local_of (Settle user slot) = Settled slot
+local_of (Destroy user) = Destroyed
 
 abbrev pub kind_of_change : LocalChange → Kind
 kind_of_change (Born birth) = Creates
 kind_of_change (Added slot secret) = Adds
-
--- a user who is there has a further slot
-abbrev pub with_added : Option Record → Slot → List ℕ → Option Record
-with_added None slot secret = None
-with_added (Some known) slot secret = Some (with_slot known slot secret)
+kind_of_change (Dropped slot) = Drops
+kind_of_change (Settled slot) = Settles
+kind_of_change Destroyed = Destroys
 
 -- the user's record after a change
 abbrev pub known_after : Option Record → LocalChange → Option Record
 known_after known (Born birth) = Some (record { birth = birth; secrets = new_secrets })
-known_after known (Added slot secret) = with_added known slot secret
+known_after known (Added slot secret) = edited known (λ user_known. with_slot user_known slot secret)
+known_after known (Dropped slot) = edited known (λ user_known. without_slot user_known slot)
+known_after known (Settled slot) = edited known (λ user_known. settled_slot user_known slot)
+known_after known Destroyed = None
 
 -- and after changes, in order
 abbrev pub known_through : Option Record → List LocalChange → Option Record

@@ -1,5 +1,5 @@
 -- What a running command rests on: facts on its user's world, and what may happen to that world between two turns.
-use Rattle.std.specs.Prelude.{◌≡◌, ◌⊎◌, List, [], ◌∷◌, Option, Contains}
+use Rattle.std.specs.Prelude.{◌≡◌, ◌⊎◌, List, [], ◌∷◌, Option, None, IsSome, Contains}
 use Rattle.tree_model.specs.declared.sites.Site.{Site}
 use Rattle.tree_model.specs.Dir.{Files}
 use Rattle.tree_model.specs.Parts.{Part}
@@ -10,6 +10,11 @@ use Rattle.user_world.specs.OwnWorlds.{OwnWorld, own_view, own_log, own_record, 
 -- between two turns of a user, the user's world stays or is settled
 abbrev pub Later : OwnWorld → OwnWorld → Type 0
 Later before after = (after ≡ before) ⊎ (after ≡ settled before)
+
+-- directories stand at exactly these sites
+pub record HasSites (view : Part) (sites : List Site) : Type 0 where
+  pub there : (site : Site) → Contains sites site → IsSome (view site)
+  pub all : (site : Site) → IsSome (view site) → Contains sites site
 
 pub data Fact : Type 0 where
   -- what the changes make of the user; a change among them; and that all are durable
@@ -23,6 +28,9 @@ pub data Fact : Type 0 where
   Always : Part → Fact
   HereAt : Site → Option Files → Fact
   AlwaysAt : Site → Option Files → Fact
+  -- directories stand at exactly these of the user's sites; and at none in any part that a stop can leave
+  Sites : List Site → Fact
+  Vacant : Fact
 
 abbrev pub Holds : Fact → OwnWorld → Type 0
 Holds (Knows known) own = own_record own ≡ known
@@ -33,6 +41,8 @@ Holds (Here part) own = own_view own ≡ part
 Holds (Always part) own = (left : Part) → IsOwnImage own.stable own.pending left → left ≡ part
 Holds (HereAt site held) own = own_view own site ≡ held
 Holds (AlwaysAt site held) own = (left : Part) → IsOwnImage own.stable own.pending left → left site ≡ held
+Holds (Sites sites) own = HasSites (own_view own) sites
+Holds Vacant own = (left : Part) (site : Site) → IsOwnImage own.stable own.pending left → left site ≡ None
 
 abbrev pub AllHold : List Fact → OwnWorld → Type 0
 AllHold [] own = Unit {0}

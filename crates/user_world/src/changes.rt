@@ -11,6 +11,12 @@ pub enum LocalChange {
     Born(Birth),
     /// The user has a further slot from now on, under this secret.
     Added { slot: Slot, secret: Secret },
+    /// The user no longer has the slot.
+    Dropped { slot: Slot },
+    /// The slot is the current one from now on.
+    Settled { slot: Slot },
+    /// The user is no longer there.
+    Destroyed,
 }
 
 impl LocalChange {
@@ -21,6 +27,9 @@ impl LocalChange {
         match self {
             LocalChange::Born(birth) => Change::Create { user, birth },
             LocalChange::Added { slot, secret } => Change::Add { user, slot, secret },
+            LocalChange::Dropped { slot } => Change::Drop { user, slot },
+            LocalChange::Settled { slot } => Change::Settle { user, slot },
+            LocalChange::Destroyed => Change::Destroy { user },
         }
     }
 }

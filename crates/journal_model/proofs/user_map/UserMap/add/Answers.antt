@@ -1,16 +1,17 @@
 use Rattle.std.proofs.Common.{ap, ◌∙◌}
-use Rattle.std.specs.FinMap.{get}
-use Rattle.journal_model.specs.Users.{Users, added}
-use Rattle.journal_model.proofs.Records.{added-back, added-nowhere}
+use Rattle.journal_model.specs.Users.{Record, Users, with_slot, with_edit}
+use Rattle.journal_model.proofs.Records.{edited-back, edited-nowhere}
 use Rattle.journal_model.proofs.user_map.UserMap.add.Goals as goal
 
 pub returns : goal.returns
-returns c = c.in_ok-insert.ensures.held
-    ∙ added-back _ _ c.args.user c.args.slot c.args.secret c.in-Some.ensures.held _ _ c.in-Some.ensures.value
-    c.in_ok-put.ensures
-    ∙ ap (λ (users : Users). added users c.args.user c.args.slot c.args.secret (get users c.args.user)) c.self.view_is
+returns c =
+    let edit = λ (known : Record). with_slot known c.args.slot c.args.secret in
+    c.in_ok-insert.ensures.held
+    ∙ edited-back _ _ c.args.user edit c.in-Some.ensures.held _ _ c.in-Some.ensures.value c.in_ok-put.ensures
+    ∙ ap (λ (users : Users). with_edit users c.args.user edit) c.self.view_is
 
 pub returns-in_default : goal.returns-in_default
 returns-in_default c =
-    added-nowhere _ _ c.args.user c.args.slot c.args.secret c.in_default.ensures.held c.in_default.ensures.value
-    ∙ ap (λ (users : Users). added users c.args.user c.args.slot c.args.secret (get users c.args.user)) c.self.view_is
+    let edit = λ (known : Record). with_slot known c.args.slot c.args.secret in
+    edited-nowhere _ _ c.args.user edit c.in_default.ensures.held c.in_default.ensures.value
+    ∙ ap (λ (users : Users). with_edit users c.args.user edit) c.self.view_is
