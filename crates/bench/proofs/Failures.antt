@@ -1,19 +1,17 @@
 -- What calls that failed leave.
-use Rattle.std.proofs.Common.{◌≡◌, ◌≢◌, ℕ, refl, rules}
+use Rattle.std.proofs.Common.{◌≡◌, ◌≢◌, ℕ, refl, sym, ◌∙◌, rules}
 use Rattle.std.specs.Prelude.{Err}
 use Rattle.tree_model.specs.declared.device.DevFault.{DevFault}
 use Rattle.tree_model.specs.declared.device.DevFault.TheVariants.{Failed as DeviceFailed, NoMemory as WantsMemory}
 use Rattle.tree_model.specs.declared.sites.LocalOp.{LocalOp}
-use Rattle.tree_model.specs.declared.sites.LocalOp.TheVariants.{MakeDir, Write, RenameFile}
-use Rattle.tree_model.specs.declared.sites.LocalOp.TheVariants.{RenameDir, RemoveFile, RemoveDir}
+use Rattle.tree_model.specs.declared.sites.LocalOp.TheVariants.{Write}
 use Rattle.tree_model.specs.Counted.{Counts, IsCounted}
 use Rattle.deferred_delete.specs.Deferral.{Deferral}
 use Rattle.journal_model.specs.declared.entries.Device.{Device}
 use Rattle.journal_model.specs.declared.entries.Device.TheVariants.{Tree as TreeDevice, Store as StoreDevice}
 use Rattle.journal_model.specs.declared.entries.Device.TheVariants.{Ring as RingDevice}
 use Rattle.task_turns.specs.declared.calls.Call.{Call}
-use Rattle.task_turns.specs.declared.calls.Call.TheVariants.{Op, Sync, List as ListCall, Read}
-use Rattle.task_turns.specs.declared.calls.Call.TheVariants.{Generate, Encrypt, Decrypt, Entries, Add, Remove}
+use Rattle.task_turns.specs.declared.calls.Call.TheVariants.{Op, Entries}
 use Rattle.bench.specs.declared.bench.Bench.{Bench}
 use Rattle.bench.specs.Bench.{Senses, Plain, seen, counts_of, IsFailedOp, IsFailed, Rests}
 use Rattle.bench.specs.Seen.{state_of, Makes}
@@ -70,27 +68,31 @@ module _ {T K G : Type 0} (senses : Senses T K G) (before : Bench T K G) (store 
     answers = tt;
   }
 
--- the keys stay where a call failed
-rest-keys : (before after : Plain) → Rests before after → after.keys ≡ before.keys
-rest-keys before after rests = λ i. (rests i).keys
+-- a call that failed leaves all but the disk and the counts
+abbrev pub Left : Plain → Plain → Type 0
+Left before after = after ≡ record before {
+  disk = after.disk;
+  tree_counts = after.tree_counts;
+  store_counts = after.store_counts;
+  ring_counts = after.ring_counts;
+}
 
-failed-op : (before after : Plain) (user : ℕ) (op : LocalOp) → IsFailedOp before after user op
-    → after.keys ≡ before.keys
-failed-op before after user (Write site file bytes) failed = λ i. (failed.1 i).keys
-failed-op before after user (MakeDir site) failed = rest-keys before after failed
-failed-op before after user (RenameFile site from to) failed = rest-keys before after failed
-failed-op before after user (RenameDir from to) failed = rest-keys before after failed
-failed-op before after user (RemoveFile site file) failed = rest-keys before after failed
-failed-op before after user (RemoveDir site) failed = rest-keys before after failed
+rest-leaves : (before after : Plain) → Rests before after → Left before after
+rest-leaves before after rests = rests ∙ λ i. record before {
+  disk = (sym rests i).disk;
+  tree_counts = after.tree_counts;
+  store_counts = after.store_counts;
+  ring_counts = after.ring_counts;
+}
 
-pub failed-keys : (before after : Plain) (call : Call) → IsFailed before after call → after.keys ≡ before.keys
-failed-keys before after (Op user op names) failed = failed-op before after user op failed
-failed-keys before after Sync failed = rest-keys before after failed
-failed-keys before after ListCall failed = rest-keys before after failed
-failed-keys before after (Read place) failed = rest-keys before after failed
-failed-keys before after (Generate tag app_id) failed = rest-keys before after failed
-failed-keys before after (Encrypt blob app_id nonce key) failed = rest-keys before after failed
-failed-keys before after (Decrypt blob app_id sealed) failed = rest-keys before after failed
-failed-keys before after Entries failed = rest-keys before after failed
-failed-keys before after (Add user class key) failed = rest-keys before after failed
-failed-keys before after (Remove user class) failed = rest-keys before after failed
+op-leaves : (before after : Plain) (user : ℕ) (op : LocalOp) → IsFailedOp before after user op → Left before after
+op-leaves before after user (Write site file bytes) failed = λ i. record (failed.1 i) {
+  disk = after.disk;
+  store_counts = after.store_counts;
+  ring_counts = after.ring_counts;
+}
+op-leaves before after user op failed = rest-leaves before after failed
+
+pub failed-leaves : (before after : Plain) (call : Call) → IsFailed before after call → Left before after
+failed-leaves before after (Op user op names) failed = op-leaves before after user op failed
+failed-leaves before after call failed = rest-leaves before after failed

@@ -1,3 +1,4 @@
+pub mod Dropped
 pub mod Failures
 pub mod Known
 pub mod Listing

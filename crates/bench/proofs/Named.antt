@@ -53,7 +53,7 @@ module _ {X Y : Type 0} (h : X → Option Y) where
       either None there = there
       either (Some z) there = Contains-rest z (filter_map h xs) y there
 
-named-back : (found : Option (Option Blob)) (blob : Blob) → named_by found ≡ Some blob → found ≡ Some (Some blob)
+pub named-back : (found : Option (Option Blob)) (blob : Blob) → named_by found ≡ Some blob → found ≡ Some (Some blob)
 named-back None blob is = cc
 named-back (Some named) blob is = ap Some is
 
@@ -66,11 +66,13 @@ module _ (places : NamedPlaces) where
       let of = filter_map-from (λ place. named_by (map.get places place)) (map.keys places) blob has in
       record { place = of.0; names = named-back (map.get places of.0) blob of.1.1 }
 
+  pub known-key : (place : Place) → is_some (map.get places place) ≡ true → Contains (map.keys places) place
+  known-key place there = Contains-from_any (λ a b e. place_exact a b (is_equal _ e)) place (map.keys places)
+      (sym (contains_key-keys places place) ∙ there)
+
   known-has : (blob : Blob) → IsKnown places blob → Contains (named_among (map.keys places)) blob
   known-has blob known = filter_map-has (λ place. named_by (map.get places place)) (map.keys places) known.place blob
-      (Contains-from_any (λ a b e. place_exact a b (is_equal _ e)) known.place (map.keys places)
-      (sym (contains_key-keys places known.place) ∙ ap is_some known.names))
-      (ap named_by known.names)
+      (known-key known.place (ap is_some known.names)) (ap named_by known.names)
 
   pub are-named : (found sorted : List Blob) → found ≡ named_among (map.keys places) → IsPermutation found sorted
       → IsSorted blob_cmp sorted → AreNamed places sorted

@@ -12,9 +12,15 @@ use Rattle.keystore_model.specs.declared.entry.Tag.{Tag}
 use Rattle.keystore_model.specs.Store.{Store, blobs_of, listed as entries_of}
 use Rattle.blob_custody.specs.Steps.{pushed_all}
 use Rattle.step_core.specs.Table.{NamedPlaces}
-use Rattle.bench.specs.Bench.{AreUnnamed, listed}
+use Rattle.bench.specs.Bench.{AreUnnamed, listed, listed_as}
 use Rattle.bench.specs.Steps.{AreNamed, is_among, unnamed, with_rows}
 use Rattle.bench.proofs.Named.{are-unnamed}
+
+pub pushed_all-promised : (list : Deferral) (blobs : List Blob) (synced : Bool)
+    → (pushed_all list blobs synced).promised ≡ list.promised - length blobs
+pushed_all-promised list [] synced = omega arith
+pushed_all-promised list (blob ∷ blobs) synced =
+    let rest = pushed_all-promised (pushed list blob synced) blobs synced in omega (arith, rest)
 
 pushed_all-last : (list : Deferral) (blobs : List Blob) (blob : Blob) (synced : Bool)
     → pushed_all list (blobs ++ blob ∷ []) synced ≡ pushed (pushed_all list blobs synced) blob synced
@@ -30,6 +36,19 @@ pushed_all-uses list (blob ∷ blobs) synced left =
     let one : (left + length (blob ∷ blobs)) - 1 ≡ left + length blobs = omega arith in
     ap (λ n. pushed_all (record (pushed (record list { promised = 0 }) blob synced) { promised = n }) blobs synced) one
     ∙ pushed_all-uses (pushed (record list { promised = 0 }) blob synced) blobs synced left
+
+-- a list that gets nothing stays as it is
+pub listed_as-nothing : (synced : Bool) (list : Deferral) → listed_as synced list [] ≡ list
+listed_as-nothing synced list = ap (λ n. record list { promised = n }) (omega arith)
+
+-- one more of the blobs
+pub pushed_all-more : (list before after : Deferral) (blobs : List Blob) (synced : Bool) (i : ℕ) (default : Blob)
+    → i < length blobs → before ≡ pushed_all list (take i blobs) synced
+    → after ≡ pushed before (get_or blobs i default) synced → after ≡ pushed_all list (take (i + 1) blobs) synced
+pushed_all-more list before after blobs synced i default within so_far push =
+    push ∙ ap (λ (l : Deferral). pushed l (get_or blobs i default) synced) so_far
+    ∙ sym (pushed_all-last list (take i blobs) (get_or blobs i default) synced)
+    ∙ sym (ap (λ some. pushed_all list some synced) (take_more blobs i default within))
 
 module _ (named : List Blob) (rows : List (Blob × Tag)) (row : Blob × Tag) where
   unnamed-last : (found : Bool) → is_among named row.0 ≡ found

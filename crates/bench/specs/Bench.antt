@@ -1,12 +1,15 @@
 -- The devices with what is known of them, and what each call leaves of them.
 use Rattle.std.specs.Prelude.{Bool, false, ◌≡◌, ◌≢◌, ℕ, ◌+◌, ◌^◌, ◌<◌, true, List, [], ◌∷◌, Option, Some, None}
-use Rattle.std.specs.Prelude.{is_some, Result, Ok, Err, length}
+use Rattle.std.specs.Prelude.{is_some, Result, Ok, Err, length, cond, ◌==◌, flat_map, Contains, option_to_list}
 use Rattle.std.specs.FinMap as map
 use Rattle.tree_model.specs.declared.blobs.Blob.{Blob}
 use Rattle.tree_model.specs.declared.device.DevFault.{DevFault}
 use Rattle.tree_model.specs.declared.device.DevFault.TheVariants.{Failed as DeviceFailed, NoMemory as WantsMemory}
 use Rattle.tree_model.specs.declared.memory.NoMemory.{NoMemory}
 use Rattle.tree_model.specs.declared.places.Place.{Place}
+use Rattle.tree_model.specs.declared.places.Place.TheVariants.{De, Ce, Temp}
+use Rattle.tree_model.specs.declared.sites.Site.{Site}
+use Rattle.tree_model.specs.declared.sites.Site.TheVariants.{De as DeSite, Ce as CeSite, Temp as TempSite}
 use Rattle.tree_model.specs.declared.sites.LocalOp.{LocalOp}
 use Rattle.tree_model.specs.declared.sites.LocalOp.TheVariants.{MakeDir, Write, RenameDir, RemoveDir}
 use Rattle.tree_model.specs.Counted.{Counts, IsCounted}
@@ -16,21 +19,23 @@ use Rattle.tree_model.specs.Named.{named_at}
 use Rattle.tree_model.specs.Parts.{part_of, LocalFits}
 use Rattle.tree_model.specs.Sites.{op_of, place_of}
 use Rattle.tree_model.specs.Tree.{Tree}
-use Rattle.key_ring.specs.Ring.{Ring, installed, removed}
-use Rattle.deferred_delete.specs.Deferral.{Deferral, noted}
+use Rattle.key_ring.specs.Ring.{Ring, installed as with_installed, removed}
+use Rattle.deferred_delete.specs.Deferral.{Deferral, noted, taken}
 use Rattle.journal_model.specs.declared.entries.Device.{Device}
 use Rattle.journal_model.specs.declared.entries.Device.TheVariants.{Tree as TreeDevice, Store as StoreDevice}
 use Rattle.journal_model.specs.declared.entries.Device.TheVariants.{Ring as RingDevice}
 use Rattle.keystore_model.specs.Sealed.{encrypted, decrypted}
-use Rattle.keystore_model.specs.Store.{Store, IsGenerated, IsCurrent, blobs_of}
+use Rattle.keystore_model.specs.Store.{Store, IsGenerated, IsCurrent, blobs_of, deleted}
 use Rattle.blob_custody.specs.Steps.{pushed_all}
 use Rattle.key_directory.specs.Shape.{sized}
 use Rattle.step_core.specs.Table.{NamedPlaces, named_by}
 use Rattle.task_turns.specs.declared.calls.Answer.{Answer}
-use Rattle.task_turns.specs.declared.calls.Answer.TheVariants.{Done, Directory, Blob as IsBlob, Sealed, Decrypted}
+use Rattle.task_turns.specs.declared.calls.Answer.TheVariants.{Done, Installed, Directory, Blob as IsBlob, Sealed}
+use Rattle.task_turns.specs.declared.calls.Answer.TheVariants.{Decrypted}
 use Rattle.task_turns.specs.declared.calls.Call.{Call}
 use Rattle.task_turns.specs.declared.calls.Call.TheVariants.{Op, Sync, List as ListCall, Read}
 use Rattle.task_turns.specs.declared.calls.Call.TheVariants.{Generate, Encrypt, Decrypt, Entries, Add, Remove}
+use Rattle.task_turns.specs.declared.calls.Call.TheVariants.{Delete}
 use Rattle.bench.specs.declared.made.Made.{Made}
 use Rattle.bench.specs.declared.made.Made.TheVariants.{Heard, Failed}
 
@@ -83,13 +88,45 @@ named_in (Some files) = Some (sized (named_at (Some files)))
 abbrev pub KnowsPlaces : NamedPlaces → Tree → Type 0
 KnowsPlaces places tree = (place : Place) → is_some (map.get places place) ≡ is_some (map.get tree place)
 
--- the places after an operation on a user's, where a directory that it renames names this
+-- what a directory names that is renamed: a temporary one this, and another what it is known to name
+abbrev pub moved_name : NamedPlaces → ℕ → Site → Option Blob → Option Blob
+moved_name places user TempSite names = names
+moved_name places user site names = named_by (map.get places (place_of user site))
+
+-- the places after an operation on a user's, where a temporary directory that it renames names this
 abbrev pub places_after : NamedPlaces → ℕ → LocalOp → Option Blob → NamedPlaces
 places_after places user (MakeDir site) names = map.insert places (place_of user site) None
 places_after places user (RenameDir from to) names =
-    map.insert (map.remove places (place_of user from)) (place_of user to) names
+    map.insert (map.remove places (place_of user from)) (place_of user to) (moved_name places user from names)
 places_after places user (RemoveDir site) names = map.remove places (place_of user site)
 places_after places user op names = places
+
+-- the blob that a place is known to name, as a list
+abbrev pub named_here : NamedPlaces → Place → List Blob
+named_here places place = option_to_list (named_by (map.get places place))
+
+-- whether a place is one of the user's but for the temporary one
+abbrev pub is_kept_of : ℕ → Place → Bool
+is_kept_of user (De owner) = owner == user
+is_kept_of user (Ce owner slot) = owner == user
+is_kept_of user (Temp owner) = false
+
+-- the blobs that these are known to name, the device key's first and then by slots
+abbrev pub names_of_user : NamedPlaces → ℕ → List Blob
+names_of_user places user =
+    flat_map (λ place. cond (is_kept_of user place) (named_here places place) []) (map.keys places)
+
+-- the blobs that no standing directory names any more once an operation on a user's places was done: those of the
+-- directory that it removes, and with the device key's those of all the user's
+abbrev pub dropped_at : NamedPlaces → ℕ → Site → List Blob
+dropped_at places user DeSite = names_of_user places user
+dropped_at places user (CeSite slot) =
+    cond (map.contains_key places (De user)) (named_here places (Ce user slot)) []
+dropped_at places user TempSite = []
+
+abbrev pub dropped : NamedPlaces → ℕ → LocalOp → List Blob
+dropped places user (RemoveDir site) = dropped_at places user site
+dropped places user op = []
 
 -- a place is known to name the blob
 pub record IsKnown (places : NamedPlaces) (blob : Blob) : Type 0 where
@@ -104,13 +141,17 @@ pub data AreUnnamed (places : NamedPlaces) : List Blob → List Blob → Type 0 
   Named : (blob : Blob) (blobs found : List Blob) → IsKnown places blob → AreUnnamed places blobs found
       → AreUnnamed places (blob ∷ blobs) found
 
--- the list with more blobs at places of their own, as synced
+-- the list with more blobs at places of their own, as synced or not
+abbrev pub listed_as : Bool → Deferral → List Blob → Deferral
+listed_as synced list found = pushed_all (record list { promised = list.promised + length found }) found synced
+
 abbrev pub listed : Deferral → List Blob → Deferral
-listed list found = pushed_all (record list { promised = list.promised + length found }) found true
+listed list found = listed_as true list found
 
 -- the devices' conditions on a call: the list has places for whatever may come on it
 abbrev pub Fits : Plain → Call → Type 0
 Fits bench (Op user op names) = LocalFits (part_of (view bench.disk) user) op
+    × (bench.list.next + bench.list.promised + length (dropped bench.places user op) < 2 ^ 63)
 Fits bench Sync = Unit {0}
 Fits bench ListCall = Unit {0}
 Fits bench (Read place) = is_some (map.get (view bench.disk) place) ≡ true
@@ -119,6 +160,7 @@ Fits bench (Encrypt blob app_id nonce key) = IsCurrent bench.store blob app_id
 Fits bench (Decrypt blob app_id sealed) = length sealed ≡ 92
 Fits bench (Add user class key) = Unit {0}
 Fits bench (Remove user class) = Unit {0}
+Fits bench (Delete item tells) = Contains bench.list.items item × (item.synced ≡ true)
 Fits bench Entries = bench.list.next + bench.list.promised + length bench.store.entries < 2 ^ 63
 
 abbrev pub device_of : Call → Device
@@ -130,6 +172,7 @@ device_of (Generate tag app_id) = StoreDevice
 device_of (Encrypt blob app_id nonce key) = StoreDevice
 device_of (Decrypt blob app_id sealed) = StoreDevice
 device_of Entries = StoreDevice
+device_of (Delete item tells) = StoreDevice
 device_of (Add user class key) = RingDevice
 device_of (Remove user class) = RingDevice
 
@@ -147,6 +190,7 @@ Does before after (Op user op names) answer = (answer ≡ Done) × (after ≡ re
   disk = with_op before.disk (op_of user op);
   tree_counts = after.tree_counts;
   places = places_after before.places user op names;
+  list = listed_as false before.list (dropped before.places user op);
 })
 Does before after Sync answer = (answer ≡ Done) × (after ≡ record before {
   disk = synced before.disk;
@@ -171,8 +215,13 @@ Does before after (Decrypt blob app_id sealed) answer =
 Does before after Entries answer = (answer ≡ Done) × ((found : List Blob)
     × AreUnnamed before.places (blobs_of before.store.entries) found
     × (after ≡ record before { store_counts = after.store_counts; list = listed before.list found }))
-Does before after (Add user class key) answer = (answer ≡ Done) × (after ≡ record before {
-  keys = installed before.keys user class key;
+Does before after (Delete item tells) answer = (answer ≡ Done) × (after ≡ record before {
+  store = deleted before.store item.blob;
+  store_counts = after.store_counts;
+  list = record before.list { items = taken before.list.items item.number };
+})
+Does before after (Add user class key) answer = (answer ≡ Installed) × (after ≡ record before {
+  keys = with_installed before.keys user class key;
   ring_counts = after.ring_counts;
 })
 Does before after (Remove user class) answer = (answer ≡ Done) × (after ≡ record before {

@@ -22,21 +22,17 @@ abbrev pub IsTemporary : Place → Type 0
 IsTemporary (Temp user) = Unit {0}
 IsTemporary place = ⊥
 
--- the known places are those of the tree, and of each such one the blob is known that it names
-pub record KnowsOf (Which : Place → Type 0) (places : NamedPlaces) (tree : Tree) : Type 0 where
-  pub there : KnowsPlaces places tree
-  pub names : (place : Place) → Which place → map.get places place ≡ named_in (map.get tree place)
-
 -- all but the temporary places
 abbrev pub IsLasting : Place → Type 0
 IsLasting place = ¬ (IsTemporary place)
 
 -- the known places are those of the tree, with the blob that each but the temporary ones names
-abbrev pub Knows : NamedPlaces → Tree → Type 0
-Knows places tree = KnowsOf IsLasting places tree
+pub record Knows (places : NamedPlaces) (tree : Tree) : Type 0 where
+  pub there : KnowsPlaces places tree
+  pub names : (place : Place) → IsLasting place → map.get places place ≡ named_in (map.get tree place)
 
-abbrev pub KnowsTree : (Place → Type 0) → Plain → Type 0
-KnowsTree Which bench = KnowsOf Which bench.places (view bench.disk)
+abbrev pub KnowsTree : Plain → Type 0
+KnowsTree bench = Knows bench.places (view bench.disk)
 
 -- an operation that was done keeps what is known
 abbrev pub LawOfKnownPlaces : Type 0
@@ -51,18 +47,18 @@ BringsName bench (Op user op names) = BringsBlob (part_of (view bench.disk) user
 BringsName bench call = Unit {0}
 
 -- what is known still once a call was done: after a list the places alone
-abbrev pub KnowsAfter : (Place → Type 0) → Plain → Call → Type 0
-KnowsAfter Which bench ListCall = KnowsPlaces bench.places (view bench.disk)
-KnowsAfter Which bench call = KnowsTree Which bench
+abbrev pub KnowsAfter : Plain → Call → Type 0
+KnowsAfter bench ListCall = KnowsPlaces bench.places (view bench.disk)
+KnowsAfter bench call = KnowsTree bench
 
 -- and by the call's answer
-abbrev pub StillKnows : (Place → Type 0) → Plain → Call → Result Made NoMemory → Type 0
-StillKnows Which bench call (Ok (Heard answer)) = KnowsAfter Which bench call
-StillKnows Which bench call (Ok (Failed device)) = KnowsTree Which bench
-StillKnows Which bench call (Err want) = KnowsTree Which bench
+abbrev pub StillKnows : Plain → Call → Result Made NoMemory → Type 0
+StillKnows bench call (Ok (Heard answer)) = KnowsAfter bench call
+StillKnows bench call (Ok (Failed device)) = KnowsTree bench
+StillKnows bench call (Err want) = KnowsTree bench
 
 -- each call keeps what is known, done or failed
 abbrev pub LawOfKnownCalls : Type 0
-LawOfKnownCalls = (before after : Plain) (call : Call) (told : Result Made NoMemory) → KnowsTree IsLasting before
+LawOfKnownCalls = (before after : Plain) (call : Call) (told : Result Made NoMemory) → KnowsTree before
     → Fits before call → BringsName before call → IsMade before after call told
-    → StillKnows IsLasting after call told
+    → StillKnows after call told

@@ -11,7 +11,7 @@ use Rattle.key_ring.specs.Ring.{Ring}
 use Rattle.step_core.specs.Table.{NamedPlaces, Users, named_by}
 use Rattle.task_turns.specs.declared.calls.Answer.TheVariants.{Blob as IsBlob}
 use Rattle.task_turns.specs.declared.calls.Call.{Call}
-use Rattle.task_turns.specs.declared.calls.Call.TheVariants.{Op, List as ListCall}
+use Rattle.task_turns.specs.declared.calls.Call.TheVariants.{Op, Sync, List as ListCall}
 use Rattle.bench.specs.declared.bench.Bench.{Bench}
 use Rattle.bench.specs.declared.made.Made.{Made}
 use Rattle.bench.specs.declared.made.Made.TheVariants.{Heard, Failed}
@@ -48,10 +48,11 @@ abbrev pub seen_by : {T K G : Type 0} → (T → Disk) → (T → Counts) → (K
 seen_by disk tree_counts store store_counts keys ring_counts bench =
     seen (senses_by disk tree_counts store store_counts keys ring_counts) (state_of bench)
 
--- the marks after a call that was done: a list takes all
+-- the marks after a call that was done: a list and a sync take all
 abbrev pub marks_after : Users → Call → Users
 marks_after marks (Op user op names) = marks_with marks user op
 marks_after marks ListCall = set.empty
+marks_after marks Sync = set.empty
 marks_after marks call = marks
 
 -- the marks by the call's answer

@@ -1,20 +1,22 @@
-ghost use Rattle.std.specs.Prelude.{◌≡◌, ◌+◌, ◌^◌, ◌<◌, [], length, IsSome};
+ghost use Rattle.std.specs.Prelude.{◌≡◌, ◌+◌, ◌^◌, ◌<◌, [], Bool, true, length, Contains, IsSome};
 ghost use Rattle.std.specs.FinMap as map;
-ghost use Rattle.bench.specs.Bench.{Fits, IsMade, AreCounted, device_of, told_of};
+ghost use Rattle.bench.specs.Bench.{Fits, IsMade, AreCounted, device_of, told_of, dropped};
 ghost use Rattle.bench.specs.Seen.{seen_by, senses_by, marks_told, IsUnread, Makes, BringsWhole, AnswersWhole};
 ghost use Rattle.deferred_delete.specs.Deferral.{Deferral};
 ghost use Rattle.keystore_model.specs.Store.{IsCurrent};
 ghost use Rattle.step_core.specs.Table.{empty_table};
 ghost use Rattle.task_turns.specs.declared.calls.Call.TheVariants.{Op, Sync, List as ListCall, Read};
 ghost use Rattle.task_turns.specs.declared.calls.Call.TheVariants.{Generate, Encrypt, Decrypt, Entries, Add, Remove};
+ghost use Rattle.task_turns.specs.declared.calls.Call.TheVariants.{Delete};
 ghost use Rattle.tree_model.specs.Disk.{view};
 ghost use Rattle.tree_model.specs.Parts.{part_of, LocalFits};
 
+use crate::drops::{dropped_blobs, list_dropped};
 use crate::follow::{follow, list_anew};
 use crate::made::Made;
 use crate::operations::{failure, operate, read_blob};
 use crate::unnamed::{list_unnamed, named_blobs};
-use deferred_delete::Deferred;
+use deferred_delete::{Deferred, Item};
 use journal_model::Device;
 use key_directory::shapes;
 use key_ring::KeyRing;
@@ -74,7 +76,7 @@ impl<T: TreeDisk, K: Keystore, G: KeyRing> Bench<T, K, G> {
         ensures answers { AnswersWhole result }
     {
         match call {
-            Call::Op { user, op, names } => self.operate(*user, op, *names),
+            Call::Op { user, op, names } => self.operate(alloc, *user, op, *names),
             Call::Sync => self.sync(),
             Call::List => self.list_places(alloc),
             Call::Read(place) => self.read(alloc, *place),
@@ -91,35 +93,52 @@ impl<T: TreeDisk, K: Keystore, G: KeyRing> Bench<T, K, G> {
                 sealed,
             } => self.decrypt(alloc, *blob, app_id.as_slice(), sealed.as_slice()),
             Call::Entries => self.list_entries(alloc),
+            Call::Delete { item, .. } => self.delete(*item),
             Call::Add { user, class, key } => self.add(alloc, *user, *class, key),
             Call::Remove { user, class } => self.remove(*user, *class),
         }
     }
 
-    /// Makes the operation on the user's places, and the table follows it.
-    fn operate(&mut self, user: u32, op: &LocalOp, names: Option<Blob>) -> Result<Made, NoMemory>
-        requires { LocalFits (part_of (view (T.disk self.old.tree)) user) op.now }
+    /// Makes the operation on the user's places, the table follows it, and the blobs that it drops are listed.
+    fn operate(
+        &mut self,
+        alloc: Global,
+        user: u32,
+        op: &LocalOp,
+        names: Option<Blob>,
+    ) -> Result<Made, NoMemory>
+        requires fits { LocalFits (part_of (view (T.disk self.old.tree)) user) op.now }
+        requires few { self.old.list.next + self.old.list.promised
+            + length (dropped self.old.table.places user op.now) < 2 ^ 63 }
         ensures { Makes (senses_by T.disk T.counts K.store K.counts G.ring G.counts)
             self.old self.new (Op user op.now names) result }
     {
         read_blob(&names);
+        let drops = dropped_blobs(alloc, &self.table, user, op)?;
+        let wanted = drops.len() as u64;
         self.table.reserve(1)?;
+        self.list.reserve(wanted)?;
         match operate(&mut self.tree, user, op) {
             Ok(()) => {
                 follow(&mut self.table, user, op, names);
+                list_dropped(&mut self.list, drops.as_slice());
                 Ok(Made::Heard(Answer::Done))
             }
-            Err(fault) => failure(Device::Tree, fault),
+            Err(fault) => {
+                self.list.give_back(wanted);
+                failure(Device::Tree, fault)
+            }
         }
     }
 
-    /// Syncs the tree, and no listed blob waits for a sync any more.
+    /// Syncs the tree: no listed blob waits for a sync any more, and nobody is marked.
     fn sync(&mut self) -> Result<Made, NoMemory>
         ensures { Makes (senses_by T.disk T.counts K.store K.counts G.ring G.counts) self.old self.new Sync result }
     {
         match self.tree.sync() {
             Ok(()) => {
                 self.list.note_sync();
+                self.table.unmark_all();
                 Ok(Made::Heard(Answer::Done))
             }
             Err(fault) => failure(Device::Tree, fault),
@@ -232,6 +251,22 @@ impl<T: TreeDisk, K: Keystore, G: KeyRing> Bench<T, K, G> {
         }
     }
 
+    /// Deletes the keystore's entry of a listed item's blob, and the item leaves the list.
+    fn delete(&mut self, item: Item) -> Result<Made, NoMemory>
+        requires listed { Contains self.old.list.items item }
+        requires synced { item.synced ≡ true }
+        ensures { (tells : Bool) → Makes (senses_by T.disk T.counts K.store K.counts G.ring G.counts) self.old self.new
+            (Delete item tells) result }
+    {
+        match self.store.delete(item.blob) {
+            Ok(()) => {
+                self.list.take(item.number);
+                Ok(Made::Heard(Answer::Done))
+            }
+            Err(fault) => failure(Device::Store, fault),
+        }
+    }
+
     /// Installs the user's key.
     fn add(
         &mut self,
@@ -244,7 +279,7 @@ impl<T: TreeDisk, K: Keystore, G: KeyRing> Bench<T, K, G> {
             (Add user class key.now) result }
     {
         match self.ring.add(alloc, user, class, key) {
-            Ok(()) => Ok(Made::Heard(Answer::Done)),
+            Ok(()) => Ok(Made::Heard(Answer::Installed)),
             Err(fault) => failure(Device::Ring, fault),
         }
     }

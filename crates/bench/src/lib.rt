@@ -3,6 +3,7 @@
 #![tactic(auto)]
 
 pub mod bench;
+pub mod drops;
 mod follow;
 pub mod laws;
 pub mod made;
@@ -10,4 +11,5 @@ mod operations;
 mod unnamed;
 
 pub use bench::Bench;
+pub use drops::dropped_blobs;
 pub use made::Made;

@@ -3,7 +3,9 @@ use Rattle.std.proofs.Common.{◌≡◌, ◌≢◌, ℕ, zero, suc, ◌+◌, ◌
 use Rattle.std.proofs.Common.{◌≤◌, add-one, arith}
 use Rattle.std.specs.Prelude.{Option, Some, None}
 use Rattle.std.specs.List.{slice_get}
+use Rattle.std.specs.Option.{unwrap_or}
 use Rattle.tree_model.specs.declared.places.Slot.{Slot}
+use Rattle.tree_model.specs.declared.places.Slot.TheVariants.{Current}
 use Rattle.tree_model.specs.Dir.{Files}
 use Rattle.step_core.specs.declared.jobs.JobOutput.{JobOutput}
 use Rattle.step_core.specs.declared.jobs.JobOutput.TheVariants.{AppId as IsAppId, Sealed as IsSealed}
@@ -14,7 +16,7 @@ use Rattle.task_turns.specs.declared.calls.Answer.TheVariants.{Directory, Decryp
 use Rattle.open_task.specs.declared.stages.Stage.{Stage}
 use Rattle.open_task.specs.declared.stages.Stage.TheVariants.{Reading, Read, Tied, Opened}
 use Rattle.open_task.specs.Task.{Opening, IsStage, IsOpening, IsOutput, AnswersStage, older, opened, after_job, skips}
-use Rattle.open_task.specs.Task.{IsAnswer, after, stage_after, with_stage}
+use Rattle.open_task.specs.Task.{IsAnswer, after, stage_after, with_stage, slot_at_hand}
 
 -- the element at an index is the first of what is left from there on
 pub first-left : (slots : List Slot) (at : ℕ) (slot : Slot) → slice_get slots at ≡ Some slot
@@ -29,6 +31,12 @@ none-left [] zero is = refl
 none-left [] (suc at) is = refl
 none-left (first ∷ slots) zero is = cc
 none-left (first ∷ slots) (suc at) is = none-left slots at is
+
+pub slot-left : (slots : List Slot) (at : ℕ) → unwrap_or (slice_get slots at) Current ≡ slot_at_hand (drop at slots)
+slot-left [] zero = refl
+slot-left [] (suc at) = refl
+slot-left (first ∷ slots) zero = refl
+slot-left (first ∷ slots) (suc at) = slot-left slots at
 
 -- what is left from the next index on
 pub older-left : (slots : List Slot) (at : ℕ) → older (drop at slots) ≡ drop (suc at) slots

@@ -66,10 +66,9 @@ module _ (task : Opening) (share : Share) (sound : IsSound task.user share) (slo
 
   -- it opens
   first : (key : List ℕ) → opens share.vault.entries share.vault.level (held_in files) task.secret ≡ Some key
-      → IsFirstOpened share task.secret key
+      → IsFirstOpened share task.secret slot key
   first key is = record {
     present = left.present;
-    slot = slot;
     files = files;
     there = there;
     opens = opens-to (Some key) is;

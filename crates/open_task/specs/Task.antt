@@ -1,6 +1,7 @@
 -- A task that opens a user's credential key, as data: the facts that it rests on, and what it is after an answer.
 use Rattle.std.specs.Prelude.{◌≡◌, ◌≢◌, ℕ, ◌+◌, ◌*◌, List, [], ◌∷◌, length, Option, Some, None}
 use Rattle.tree_model.specs.declared.places.Slot.{Slot}
+use Rattle.tree_model.specs.declared.places.Slot.TheVariants.{Current}
 use Rattle.tree_model.specs.declared.sites.Site.TheVariants.{Ce}
 use Rattle.tree_model.specs.Dir.{Files}
 use Rattle.journal_model.specs.Hashes.{app_id_of}
@@ -42,13 +43,18 @@ abbrev pub at_hand : List Slot → Files → List ShareFact → List ShareFact
 at_hand [] files facts = facts
 at_hand (slot ∷ slots) files facts = Own (HereAt (Ce slot) (Some files)) ∷ facts
 
+-- that slot; of no slots, the current one
+abbrev pub slot_at_hand : List Slot → Slot
+slot_at_hand [] = Current
+slot_at_hand (slot ∷ slots) = slot
+
 -- the facts that a task rests on between two turns
 abbrev pub facts_at : List ℕ → List Slot → Stage → List ShareFact
 facts_at secret left Reading = LeftToTry secret left ∷ []
 facts_at secret left (Read files) = LeftToTry secret left ∷ at_hand left files []
 facts_at secret left (Tied files app_id) =
     LeftToTry secret left ∷ at_hand left files (Same app_id (app_id_of (discard_at files) []) ∷ [])
-facts_at secret left (Opened key) = Opens secret key ∷ []
+facts_at secret left (Opened key) = Opens secret (slot_at_hand left) key ∷ []
 
 abbrev pub facts_of : Opening → List ShareFact
 facts_of task = facts_at task.secret task.left task.stage

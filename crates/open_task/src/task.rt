@@ -1,7 +1,7 @@
 ghost use Rattle.std.specs.Prelude.{◌≡◌, [], IfOk, slice_get};
 ghost use Rattle.key_directory.specs.Opened.{FitsFiles};
 ghost use Rattle.open_task.specs.declared.stages.Stage.TheVariants.{Reading};
-ghost use Rattle.open_task.specs.Task.{IsAnswer, after, job_of, key_in};
+ghost use Rattle.open_task.specs.Task.{IsAnswer, after, job_of, key_in, slot_at_hand};
 ghost use Rattle.open_task.specs.Turns.{OpenTurns, OpenAsks, Decrypts};
 
 use crate::stages::{Doing, Stage};
@@ -84,6 +84,13 @@ impl OpenTask {
             Stage::Opened(key) => Some(*key),
             _ => None,
         }
+    }
+
+    /// The slot at hand, which opened where there is a key.
+    pub fn slot(&self) -> Slot
+        ensures { result ≡ slot_at_hand self.now.left }
+    {
+        slot_at(self.slots.as_slice(), self.at).unwrap_or(Slot::Current)
     }
 
     /// What it does next; None exactly where it has ended.

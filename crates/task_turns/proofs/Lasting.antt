@@ -3,7 +3,8 @@ use Rattle.std.proofs.Common.{◌≡◌, ℕ, List, [], ◌∷◌, sym, ap, ◌�
 use Rattle.std.proofs.Common.{◌⊎◌, inl, inr}
 use Rattle.std.specs.Prelude.{is_some, IsSome, Contains, Option, Some, None}
 use Rattle.tree_model.specs.declared.blobs.Blob.{Blob}
-use Rattle.tree_model.specs.declared.places.Class.TheVariants.{Ce as ForCe}
+use Rattle.tree_model.specs.declared.places.Class.{Class}
+use Rattle.tree_model.specs.declared.places.Class.TheVariants.{De as ForDe, Ce as ForCe}
 use Rattle.tree_model.specs.declared.places.Slot.{Slot}
 use Rattle.tree_model.specs.declared.sites.Site.{Site}
 use Rattle.tree_model.specs.declared.sites.Site.TheVariants.{De, Ce}
@@ -17,10 +18,12 @@ use Rattle.user_world.specs.OwnWorlds.{own_view, own_record}
 use Rattle.user_world.specs.Facts.{Knows}
 use Rattle.user_world.proofs.Facts.{later-facts}
 use Rattle.key_directory.specs.Opened.{OpensTo}
+use Rattle.key_directory.specs.Vaults.{SureOf}
 use Rattle.key_directory.proofs.Lasting.{fewer-match}
 use Rattle.key_directory.proofs.Opened.{kept-opening}
 use Rattle.task_turns.specs.Shares.{Share, ShareFact, Own, KeyFor, SealedFor, Same, Given, Drawn, Gave, NextSlot}
-use Rattle.task_turns.specs.Shares.{Right, HasKey, LeftToTry, Opens}
+use Rattle.task_turns.specs.Shares.{AllSlots, Slots, Newest, SlotsFew, NewestUnder, MadeKey, HasKey, LeftToTry}
+use Rattle.task_turns.specs.Shares.{Opens}
 use Rattle.task_turns.specs.Shares.{IsKeyFor, Has, AllHas, LaterShare, IsHeld, AreHeld, AreLeftToTry, IsFirstOpened}
 
 module _ (held : List Blob) (before after : Share) (later : LaterShare held before after) where
@@ -76,13 +79,13 @@ module _ (held : List Blob) (before after : Share) (later : LaterShare held befo
     order = has.order;
   }
 
-  first-opened : (secret key : List ℕ) → IsFirstOpened before secret key → IsFirstOpened after secret key
-  first-opened secret key has = record {
+  first-opened : (secret : List ℕ) (slot : Slot) (key : List ℕ) → IsFirstOpened before secret slot key
+      → IsFirstOpened after secret slot key
+  first-opened secret slot key has = record {
     present = there-lasts has.present;
-    slot = has.slot;
     files = has.files;
-    there = seen-after (Ce has.slot) (Some has.files) has.there;
-    opens = opens-lasts has.present has.slot has.files secret (Some key) has.there has.opens;
+    there = seen-after (Ce slot) (Some has.files) has.there;
+    opens = opens-lasts has.present slot has.files secret (Some key) has.there has.opens;
     newer = λ other dir newer there.
         let seen = seen-before (Ce other) (Some dir) there in
         opens-lasts has.present other dir secret None seen (has.newer other dir newer seen);
@@ -108,14 +111,38 @@ module _ (held : List Blob) (before after : Share) (later : LaterShare held befo
   fact-lasts (Gave user secret) is has = λ some. (later.attempts user).secrets secret (has some)
   fact-lasts (NextSlot slot) is has =
       record { known = has.known; there = known-lasts has.known has.there; next = has.next }
-  fact-lasts (Right user secret) is has = record {
+  fact-lasts (AllSlots slots) is has =
+      record { known = has.known; there = known-lasts has.known has.there; has = has.has; all = has.all }
+  fact-lasts (Slots kept others) is has = record {
     known = has.known;
     there = known-lasts has.known has.there;
-    under = λ sure. has.under (fewer-match _ _ (later.attempts user) sure);
+    has_kept = has.has_kept;
+    has_others = has.has_others;
+    all = has.all;
   }
+  fact-lasts (Newest slot) is has =
+      record { known = has.known; there = known-lasts has.known has.there; newest = has.newest }
+  fact-lasts (SlotsFew most) is has =
+      record { known = has.known; there = known-lasts has.known has.there; few = has.few }
+  fact-lasts (NewestUnder user secret slot) is has = record {
+    known = has.known;
+    there = known-lasts has.known has.there;
+    newest = λ sure. has.newest (fewer-match _ _ (later.attempts user) sure);
+  }
+  fact-lasts (MadeKey user class key) is has = record {
+    known = has.known;
+    there = known-lasts has.known has.there;
+    given = λ sure. has.given (sure-before class sure)
+        ∙ sym (ap (λ seed. key_of seed class user has.known.birth) later.seed);
+  }
+    where
+      sure-before : (class : Class) → SureOf (after.vault.attempts user) class
+          → SureOf (before.vault.attempts user) class
+      sure-before ForDe sure = tt
+      sure-before ForCe sure = fewer-match _ _ (later.attempts user) sure
   fact-lasts (HasKey class there) is has = subst (λ keys. is_some (keys class) ≡ there) (sym later.keys) has
   fact-lasts (LeftToTry secret left) is has = left-to-try secret left has
-  fact-lasts (Opens secret key) is has = first-opened secret key has
+  fact-lasts (Opens secret slot key) is has = first-opened secret slot key has
 
 pub facts-last : (facts : List ShareFact) (held : List Blob) (before after : Share) → LaterShare held before after
     → AreHeld held facts → AllHas facts before → AllHas facts after

@@ -1,5 +1,7 @@
 -- A user's share of the devices, the facts that a task rests on there, and when they last.
 use Rattle.std.specs.Prelude.{◌≡◌, ◌⊎◌, ℕ, Bool, List, [], ◌∷◌, Option, Some, None, is_some, IsSome, Contains}
+use Rattle.std.specs.Prelude.{◌≢◌, ◌≤◌, length}
+use Rattle.std.specs.FinMap as map
 use Rattle.std.specs.declared.cmp.Ordering.TheVariants.{Less}
 use Rattle.tree_model.specs.declared.blobs.Blob.{Blob}
 use Rattle.tree_model.specs.declared.places.Class.{Class}
@@ -11,7 +13,7 @@ use Rattle.tree_model.specs.Named.{PartNames}
 use Rattle.tree_model.specs.Order.{slot_cmp}
 use Rattle.journal_model.specs.declared.entries.Birth.{Birth}
 use Rattle.journal_model.specs.Made.{key_of, nonce_of, discardable_of}
-use Rattle.journal_model.specs.Users.{Record, HasSecret, next_slot}
+use Rattle.journal_model.specs.Users.{Record, HasSecret, HasNewest, next_slot}
 use Rattle.seal_model.specs.Sealed.{sealed_text}
 use Rattle.keystore_model.specs.declared.entry.StoreEntry.{StoreEntry}
 use Rattle.keystore_model.specs.declared.entry.Tag.{Tag}
@@ -19,7 +21,7 @@ use Rattle.keystore_model.specs.Store.{entry_of}
 use Rattle.user_world.specs.OwnWorlds.{OwnWorld, OwnImagesStand, own_view, own_record}
 use Rattle.user_world.specs.Facts.{Fact, Holds, Later}
 use Rattle.key_directory.specs.Opened.{AreCurrent, WasGiven, OpensTo, FitsFiles}
-use Rattle.key_directory.specs.Vaults.{Vault, NoChanceMatch, Extends, KeepsEntry, sealed as sealed_in}
+use Rattle.key_directory.specs.Vaults.{Vault, NoChanceMatch, SureOf, Extends, KeepsEntry, sealed as sealed_in}
 
 pub record Share : Type 0 where
   pub own : OwnWorld
@@ -45,13 +47,20 @@ pub data ShareFact : Type 0 where
   Gave : ℕ → List ℕ → ShareFact
   -- the slot that a further secret of the user comes into
   NextSlot : Slot → ShareFact
-  -- one of the user's slots is under this secret, where no tag matched by chance
-  Right : ℕ → List ℕ → ShareFact
+  -- the user has exactly these slots; this slot and these others; this newest one; and so many at most
+  AllSlots : List Slot → ShareFact
+  Slots : Slot → List Slot → ShareFact
+  Newest : Slot → ShareFact
+  SlotsFew : ℕ → ShareFact
+  -- this slot is the newest of the user's that are under this secret, where no tag matched by chance
+  NewestUnder : ℕ → List ℕ → Slot → ShareFact
+  -- the key is the one of this class that the user was given, where no tag matched by chance
+  MadeKey : ℕ → Class → List ℕ → ShareFact
   -- whether the user's key of this class is in the ring
   HasKey : Class → Bool → ShareFact
-  -- of the user's slots these are left to try with a secret, and the key that the newest one opens to that opens
+  -- of the user's slots these are left to try with a secret; and this is the newest one that opens, to this key
   LeftToTry : List ℕ → List Slot → ShareFact
-  Opens : List ℕ → List ℕ → ShareFact
+  Opens : List ℕ → Slot → List ℕ → ShareFact
 
 pub record IsKeyFor (vault : Vault) (blob : Blob) (app_id : List ℕ) (tag : Tag) : Type 0 where
   pub entry : StoreEntry
@@ -86,10 +95,9 @@ pub record AreLeftToTry (share : Share) (secret : List ℕ) (left : List Slot) :
   pub may : (slot : Slot) → Contains left slot → MayOpen share secret slot
   pub order : AreNewestFirst left
 
--- the user is there, and a slot opens with the secret to the key, while each newer one opens to nothing
-pub record IsFirstOpened (share : Share) (secret key : List ℕ) : Type 0 where
+-- the user is there, and the slot opens with the secret to the key, while each newer one opens to nothing
+pub record IsFirstOpened (share : Share) (secret : List ℕ) (slot : Slot) (key : List ℕ) : Type 0 where
   pub present : IsSome (own_view share.own De)
-  pub slot : Slot
   pub files : Files
   pub there : own_view share.own (Ce slot) ≡ Some files
   pub opens : OpensTo share.vault files secret (Some key)
@@ -101,6 +109,49 @@ pub record IsNextSlot (share : Share) (slot : Slot) : Type 0 where
   pub known : Record
   pub there : own_record share.own ≡ Some known
   pub next : slot ≡ next_slot known
+
+-- the user is there, with exactly these slots; with this slot and these others; with this newest one; and with so
+-- many at most
+pub record HasAllSlots (share : Share) (slots : List Slot) : Type 0 where
+  pub known : Record
+  pub there : own_record share.own ≡ Some known
+  pub has : (slot : Slot) → Contains slots slot → IsSome (map.get known.secrets slot)
+  pub all : (slot : Slot) → IsSome (map.get known.secrets slot) → Contains slots slot
+
+pub record HasSlots (share : Share) (kept : Slot) (others : List Slot) : Type 0 where
+  pub known : Record
+  pub there : own_record share.own ≡ Some known
+  pub has_kept : IsSome (map.get known.secrets kept)
+  pub has_others : (slot : Slot) → Contains others slot → (slot ≢ kept) × IsSome (map.get known.secrets slot)
+  pub all : (slot : Slot) → IsSome (map.get known.secrets slot) → (slot ≡ kept) ⊎ Contains others slot
+
+pub record IsNewest (share : Share) (slot : Slot) : Type 0 where
+  pub known : Record
+  pub there : own_record share.own ≡ Some known
+  pub newest : HasNewest known slot
+
+pub record AreFew (share : Share) (most : ℕ) : Type 0 where
+  pub known : Record
+  pub there : own_record share.own ≡ Some known
+  pub few : length (map.keys known.secrets) ≤ most
+
+-- the slot is under the secret, and no newer one is
+pub record IsNewestUnder (known : Record) (secret : List ℕ) (slot : Slot) : Type 0 where
+  pub under : map.get known.secrets slot ≡ Some secret
+  pub newest : (other : Slot) → slot_cmp slot other ≡ Less → map.get known.secrets other ≢ Some secret
+
+-- the user is there, and where no tag matched by chance the slot is the newest one under the secret
+pub record IsKeptUnder (share : Share) (user : ℕ) (secret : List ℕ) (slot : Slot) : Type 0 where
+  pub known : Record
+  pub there : own_record share.own ≡ Some known
+  pub newest : NoChanceMatch (share.vault.attempts user) → IsNewestUnder known secret slot
+
+-- the user is there, and the key of this class is the one that the user was given: a credential key where no tag
+-- matched by chance
+pub record IsGiven (share : Share) (user : ℕ) (class : Class) (key : List ℕ) : Type 0 where
+  pub known : Record
+  pub there : own_record share.own ≡ Some known
+  pub given : SureOf (share.vault.attempts user) class → key ≡ key_of share.vault.seed class user known.birth
 
 -- the user is there, and where no tag matched by chance one of the user's slots is under the secret
 pub record IsUnder (share : Share) (user : ℕ) (secret : List ℕ) : Type 0 where
@@ -118,10 +169,15 @@ Has (Drawn nonce discard user made) share = (nonce ≡ nonce_of share.vault.seed
     × (discard ≡ discardable_of share.vault.seed ForCe user made)
 Has (Gave user secret) share = WasGiven (share.vault.attempts user) secret
 Has (NextSlot slot) share = IsNextSlot share slot
-Has (Right user secret) share = IsUnder share user secret
+Has (AllSlots slots) share = HasAllSlots share slots
+Has (Slots kept others) share = HasSlots share kept others
+Has (Newest slot) share = IsNewest share slot
+Has (SlotsFew most) share = AreFew share most
+Has (NewestUnder user secret slot) share = IsKeptUnder share user secret slot
+Has (MadeKey user class key) share = IsGiven share user class key
 Has (HasKey class there) share = is_some (share.keys class) ≡ there
 Has (LeftToTry secret left) share = AreLeftToTry share secret left
-Has (Opens secret key) share = IsFirstOpened share secret key
+Has (Opens secret slot key) share = IsFirstOpened share secret slot key
 
 abbrev pub AllHas : List ShareFact → Share → Type 0
 AllHas [] share = Unit {0}

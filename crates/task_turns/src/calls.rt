@@ -1,3 +1,4 @@
+use deferred_delete::Item;
 use keystore_model::{Decrypted, Tag};
 use step_core::JobOutput;
 use tree_model::{Blob, Bytes, Class, Dir, LocalOp, Place};
@@ -9,7 +10,7 @@ pub enum Call {
     Op {
         user: u32,
         op: LocalOp,
-        /// The blob that a directory names which the operation renames, where it names one.
+        /// The blob that a temporary directory names which the operation renames, where it names one.
         names: Option<Blob>,
     },
     /// A sync of the tree.
@@ -38,6 +39,12 @@ pub enum Call {
     },
     /// A list of the keystore's entries.
     Entries,
+    /// The keystore's entry of a listed item's blob is deleted, and the item leaves the list.
+    Delete {
+        item: Item,
+        /// Whether the command tells where the keystore failed; else it goes on, and the item stays listed.
+        tells: bool,
+    },
     /// The ring gets a user's key.
     Add {
         user: u32,
@@ -56,6 +63,8 @@ pub enum Call {
 pub enum Answer {
     /// It was done, and there is nothing to tell of it.
     Done,
+    /// The key is in the ring.
+    Installed,
     /// The directory that was read.
     Directory(Dir),
     /// The blob of the entry that was made.
