@@ -1,10 +1,8 @@
--- Operations of a user's command that no standing directory feels: those in the temporary directory, and the removal
--- of what a failed create left.
-use Rattle.std.proofs.Common.{◌≡◌, ◌≢◌, ℕ, true, false, List, [], refl, sym, ap, ◌∙◌, subst, inl, inr}
+-- Operations of a user's command that no standing directory feels: those in the temporary directory.
+use Rattle.std.proofs.Common.{◌≡◌, ◌≢◌, ℕ, true, false, List, [], refl, sym, ap, ◌∙◌, inl, inr}
 use Rattle.std.specs.Prelude.{◌||◌, Option, Some, None}
 use Rattle.tree_model.specs.declared.blobs.Blob.{Blob}
 use Rattle.tree_model.specs.declared.ops.Fill.TheVariants.{Same}
-use Rattle.tree_model.specs.declared.places.Slot.{Slot}
 use Rattle.tree_model.specs.declared.places.Slot.TheVariants.{Current, Cx}
 use Rattle.tree_model.specs.declared.sites.Site.{Site}
 use Rattle.tree_model.specs.declared.sites.Site.TheVariants.{De, Ce, Temp}
@@ -12,26 +10,26 @@ use Rattle.tree_model.specs.declared.sites.LocalOp.{LocalOp}
 use Rattle.tree_model.specs.declared.sites.LocalOp.TheVariants.{MakeDir, Write, RenameFile, RenameDir, RemoveFile}
 use Rattle.tree_model.specs.declared.sites.LocalOp.TheVariants.{RemoveDir}
 use Rattle.tree_model.specs.Dir.{Files}
-use Rattle.tree_model.specs.Named.{PartNames}
 use Rattle.tree_model.specs.Parts.{Part, LocalFits, after_local, filled_local, local_kind}
 use Rattle.tree_model.specs.Sites.{same_site, touches}
 use Rattle.tree_model.proofs.Parts.{frame}
 use Rattle.keystore_model.proofs.Elements.{Contains-none}
+use Rattle.journal_model.specs.Users.{Record}
 use Rattle.user_world.specs.declared.changes.LocalChange.{LocalChange}
 use Rattle.user_world.specs.Meaning.{Meaning}
 use Rattle.user_world.specs.OwnWorlds.{OwnWorld, quiet, own_view, with_step, IsOwnImage}
 use Rattle.user_world.specs.Turns.{StepShows}
 use Rattle.user_world.proofs.OwnWorlds.{view-step, view-image, keeps-temp}
 use Rattle.blob_custody.specs.Steps.{LetsGo}
-use Rattle.blob_custody.proofs.Names.{absent, not-both, same-names, names-new}
-use Rattle.blob_custody.proofs.Renamings.{whole-remove}
+use Rattle.blob_custody.proofs.Names.{absent, same-names}
 use Rattle.task_turns.specs.Names.{Gains, Brings}
 use Rattle.task_turns.specs.Shares.{Share, AllHas}
-use Rattle.task_turns.specs.Turns.{operated}
+use Rattle.task_turns.specs.Turns.{drops_most, operated}
 use Rattle.store_task.specs.declared.stages.Progress.{Progress}
 use Rattle.store_task.specs.declared.stages.Progress.TheVariants.{Settled}
 use Rattle.store_task.proofs.ShownTurns.{at-itself}
-use Rattle.user_tasks.specs.Stores.{part, whole_facts, quiet_turn, op_turn}
+use Rattle.user_tasks.specs.Stores.{part, whole_facts, op_turn}
+use Rattle.user_tasks.specs.Turns.{quiet_turn}
 use Rattle.user_tasks.proofs.Whole.{same-parts, whole-view, whole-here, none-still}
 use Rattle.task_turns.specs.declared.calls.Call.TheVariants.{Op as OpCall}
 
@@ -85,6 +83,17 @@ module _ (view : Part) where
   aside-turn user (RemoveFile site file) named change aside fits = refl
   aside-turn user (RemoveDir site) named change aside fits = refl
 
+-- and removes no directory that could name a blob
+pub aside-drops : (op : LocalOp) → IsAside op → (known : Option Record) → drops_most op known ≡ 0
+aside-drops (MakeDir site) aside known = refl
+aside-drops (Write site file bytes) aside known = refl
+aside-drops (RenameFile site from to) aside known = refl
+aside-drops (RenameDir from to) aside known = refl
+aside-drops (RemoveFile site file) aside known = refl
+aside-drops (RemoveDir De) aside known = absurd (true-false (aside De (λ e. cc)))
+aside-drops (RemoveDir (Ce slot)) aside known = absurd (away-from (Ce slot) (aside (Ce slot) (λ e. cc)))
+aside-drops (RemoveDir Temp) aside known = refl
+
 -- it keeps every image
 pub aside-step : (meaning : Meaning) (user : ℕ) (own : OwnWorld) (op : LocalOp) → IsAside op
     → LocalFits (own_view own) op → StepShows meaning user own (quiet op) []
@@ -102,9 +111,9 @@ aside-gains own op aside = record {
       (sym (frame left fill op De (aside De (λ e. cc))))
       (λ slot. sym (frame left fill op (Ce slot) (aside (Ce slot) (λ e. cc)))) names);
   named = λ blob none. absurd (Contains-none blob none);
-  kept = λ blob names. same-names (own_view own) (after_local (own_view own) op) blob
+  kept = λ blob names. inl (same-names (own_view own) (after_local (own_view own) op) blob
       (frame (own_view own) Same op De (aside De (λ e. cc)))
-      (λ slot. frame (own_view own) Same op (Ce slot) (aside (Ce slot) (λ e. cc))) names;
+      (λ slot. frame (own_view own) Same op (Ce slot) (aside (Ce slot) (λ e. cc))) names);
 }
 
 -- an operation away from the device directory, which stands in no image
@@ -116,18 +125,6 @@ absent-gains own op apart none = record {
   named = λ blob gains. absurd (Contains-none blob gains);
   kept = λ blob names. absurd (absent (own_view own De) (none (own_view own) (view-image own.stable own.pending))
       names.present);
-}
-
--- a credential directory that is removed where the user isn't there
-pub debris-gains : (own : OwnWorld) (slot : Slot) → own_view own De ≡ None → Gains own (RemoveDir (Ce slot)) []
-debris-gains own slot none = record {
-  gained = λ left fill blob is names. elim (names-new left slot None blob
-      (subst (λ op. PartNames (after_local left op) blob) (whole-remove (Ce slot) fill) names)) [
-        | inl was ↦ inl was
-        | inr now ↦ absurd (not-both None blob refl now)
-      ];
-  named = λ blob gains. absurd (Contains-none blob gains);
-  kept = λ blob names. absurd (absent (own_view own De) none names.present);
 }
 
 -- the whole part after it, by what the temporary directory is then

@@ -3,7 +3,6 @@ use Rattle.std.proofs.Common.{◌≡◌, ℕ, List, refl, sym, ap, ◌∙◌, su
 use Rattle.std.specs.Prelude.{Bool, true, false, None}
 use Rattle.tree_model.specs.declared.places.Class.{Class}
 use Rattle.tree_model.specs.declared.places.Class.TheVariants.{De as ForDe, Ce as ForCe}
-use Rattle.tree_model.specs.declared.places.Slot.{Slot}
 use Rattle.tree_model.proofs.Logic.{is_none}
 use Rattle.journal_model.specs.declared.commands.Command.TheVariants.{Create as CreateCommand}
 use Rattle.journal_model.specs.declared.commands.Reply.TheVariants.{UserExists, TooManyUsers}
@@ -15,6 +14,7 @@ use Rattle.user_world.specs.OwnWorlds.{own_record}
 use Rattle.store_task.specs.declared.turns.StoreSpec.{StoreSpec}
 use Rattle.store_task.specs.declared.stages.Stage.TheVariants.{First}
 use Rattle.user_tasks.specs.declared.creates.Stage.TheVariants.{Clearing}
+use Rattle.user_tasks.specs.declared.looks.Known.{Known}
 use Rattle.user_tasks.specs.declared.tasks.UserTask.TheVariants.{Create as OfCreate}
 use Rattle.user_tasks.specs.Create.{Creating}
 use Rattle.user_tasks.specs.Made.{IsMadeSpec, IsFirst}
@@ -39,7 +39,7 @@ none-present : (present crowded : Bool) → first_due (due present UserExists) (
 none-present true crowded e = cc
 none-present false crowded e = refl
 
-module _ (user : ℕ) (birth : Birth) (boot_seed : List ℕ) (slots : List Slot) (next : Slot)
+module _ (user : ℕ) (birth : Birth) (boot_seed : List ℕ) (known : Known)
     (ce_spec de_spec : StoreSpec) (ce_job de_job : ℕ) where
   abbrev first_create : Creating
   first_create = record {
@@ -51,14 +51,14 @@ module _ (user : ℕ) (birth : Birth) (boot_seed : List ℕ) (slots : List Slot)
   }
 
   create-begins : IsMadeSpec user birth ForCe boot_seed ce_spec → IsMadeSpec user birth ForDe boot_seed de_spec
-      → Begins (CreateCommand user) birth boot_seed slots next (OfCreate first_create)
+      → Begins (CreateCommand user) birth boot_seed known (OfCreate first_create)
   create-begins ce_made de_made = record {
     owned = refl;
     few = omega arith;
     makes = omega arith;
     draws = omega arith;
     held = refl;
-    rests = λ facts share present installed accepted seeded known. record {
+    rests = λ facts share present installed accepted seeded knows. record {
       of_user = refl;
       accepted = refl;
       serves = record { command = refl; born = refl; changes = refl };
@@ -75,15 +75,15 @@ module _ (user : ℕ) (birth : Birth) (boot_seed : List ℕ) (slots : List Slot)
   }
 
 -- as it is made
-pub first-begins : (user : ℕ) (birth : Birth) (number : ℕ) (boot_seed : List ℕ) (slots : List Slot)
-    (next : Slot) (create : Creating) → IsFirst user birth number boot_seed create
-    → Begins (CreateCommand user) birth boot_seed slots next (OfCreate create)
-first-begins user birth number boot_seed slots next create first =
-    subst (λ it. Begins (CreateCommand user) birth boot_seed slots next (OfCreate it)) (sym same)
-    (create-begins user birth boot_seed slots next create.ce.spec create.de.spec create.ce.job create.de.job
+pub first-begins : (user : ℕ) (birth : Birth) (number : ℕ) (boot_seed : List ℕ) (known : Known)
+    (create : Creating) → IsFirst user birth number boot_seed create
+    → Begins (CreateCommand user) birth boot_seed known (OfCreate create)
+first-begins user birth number boot_seed known create first =
+    subst (λ it. Begins (CreateCommand user) birth boot_seed known (OfCreate it)) (sym same)
+    (create-begins user birth boot_seed known create.ce.spec create.de.spec create.ce.job create.de.job
     first.ce.made first.de.made)
   where
-    same : create ≡ first_create user birth boot_seed slots next create.ce.spec create.de.spec create.ce.job
+    same : create ≡ first_create user birth boot_seed known create.ce.spec create.de.spec create.ce.job
         create.de.job
     same = λ i. record {
       user = first.of_user i;

@@ -9,9 +9,10 @@ use Rattle.user_world.specs.declared.changes.LocalChange.{LocalChange}
 use Rattle.user_world.specs.Turns.{with_note}
 use Rattle.task_turns.specs.declared.calls.Answer.{Answer}
 use Rattle.task_turns.specs.declared.calls.Answer.TheVariants.{Done, Directory, Blob as IsBlob, Sealed, Decrypted}
-use Rattle.task_turns.specs.declared.calls.Answer.TheVariants.{Output}
+use Rattle.task_turns.specs.declared.calls.Answer.TheVariants.{Output, Installed}
 use Rattle.task_turns.specs.declared.calls.Call.TheVariants.{Op as OpCall, Sync as SyncCall, List as ListCall, Read}
 use Rattle.task_turns.specs.declared.calls.Call.TheVariants.{Generate, Encrypt, Decrypt, Entries, Add, Remove}
+use Rattle.task_turns.specs.declared.calls.Call.TheVariants.{Delete}
 use Rattle.task_turns.specs.declared.next.Next.{Next}
 use Rattle.task_turns.specs.declared.next.Next.TheVariants.{Call as CallNext, Work as WorkNext, Reply as ReplyNext}
 use Rattle.task_turns.specs.Shares.{Share}
@@ -19,7 +20,7 @@ use Rattle.task_turns.specs.Turns.{seen_of, Tasks, Scene, Cost, Leads, TurnShows
 use Rattle.task_turns.specs.Turns.{TellsOpened, MayChange}
 use Rattle.store_task.specs.declared.stages.Stage.TheVariants.{First}
 use Rattle.store_task.specs.Task.{Task, IsAnswer, AnswersStage}
-use Rattle.user_tasks.proofs.Writing.{leads-to}
+use Rattle.user_tasks.proofs.Leading.{leads-to}
 
 -- the task clears before its store task begins, and hears each answer to that as the one that is past it; neither
 -- holds
@@ -109,7 +110,9 @@ module _ {T : Type 0} (tasks : Tasks T) (clearing storing : T) (store : Task)
   as-cleared (CallNext (Decrypt blob app_id text) change) shows =
       absurd (unheard store cleared.first (Decrypted _) (cleared.hears (Decrypted _) shows.stands.leads.hears))
   as-cleared (CallNext Entries change) shows = absurd shows.stands
-  as-cleared (CallNext (Add owner class key) change) shows = absurd (done-cleared shows.stands.leads.hears)
+  as-cleared (CallNext (Delete item tells) change) shows = absurd (done-cleared shows.stands.leads.hears)
+  as-cleared (CallNext (Add owner class key) change) shows =
+      absurd (unheard store cleared.first Installed (cleared.hears Installed shows.stands.leads.hears))
   as-cleared (CallNext (Remove owner class) change) shows = absurd (done-cleared shows.stands.leads.hears)
   as-cleared (WorkNext job) shows = record {
     held =
@@ -122,7 +125,9 @@ module _ {T : Type 0} (tasks : Tasks T) (clearing storing : T) (store : Task)
     outcome = shows.outcome;
     may = subst (λ user. AllowsOutcome (evidence_in user scene.share) scene.boot scene.began reply) (sym cleared.user)
         shows.may;
-    right = subst (λ user. TellsOpened reply scene.began.command → GaveRight user scene) (sym cleared.user) shows.right;
+    right = subst (λ user. TellsOpened reply scene.began.command → GaveRight user scene) (sym cleared.user)
+        shows.right;
+    gone = shows.gone;
     lasts = omega (arith, shows.lasts, cleared.left);
     held = cleared.none;
   }

@@ -13,8 +13,9 @@ use Rattle.tree_model.specs.Sites.{site_of, touches}
 use Rattle.tree_model.specs.Tree.{kind_if, Drop as DropKind}
 use Rattle.keystore_model.specs.declared.entry.Tag.{Tag}
 use Rattle.journal_model.specs.declared.entries.Birth.{Birth}
+use Rattle.journal_model.specs.Users.{Record}
 use Rattle.user_world.specs.declared.changes.LocalChange.TheVariants.{Born}
-use Rattle.user_world.specs.OwnWorlds.{OwnWorld, quiet, own_view, OwnImagesStand}
+use Rattle.user_world.specs.OwnWorlds.{OwnWorld, quiet, own_view, own_record, OwnImagesStand}
 use Rattle.user_world.specs.Turns.{StepShows}
 use Rattle.user_world.proofs.OwnWorlds.{keeps-absent, absent-view}
 use Rattle.user_world.proofs.Facts.{knows-step}
@@ -26,7 +27,7 @@ use Rattle.task_turns.specs.declared.next.Next.{Next}
 use Rattle.task_turns.specs.declared.next.Next.TheVariants.{Call as CallNext}
 use Rattle.task_turns.specs.Names.{Gains}
 use Rattle.task_turns.specs.Shares.{Share, Has, AllHas, IsHeld}
-use Rattle.task_turns.specs.Turns.{seen_of, Scene, TurnShows, CallShows}
+use Rattle.task_turns.specs.Turns.{seen_of, Scene, TurnShows, CallShows, drops_at}
 use Rattle.store_task.specs.declared.turns.StoreSpec.{StoreSpec}
 use Rattle.store_task.specs.declared.stages.Stage.{Stage as StoreStage}
 use Rattle.store_task.specs.declared.stages.Stage.TheVariants.{First, Tied, Generated, Storing}
@@ -39,18 +40,21 @@ use Rattle.store_task.proofs.HeldBlobs.{sealing-held}
 use Rattle.store_task.proofs.ShownTurns.{off-temp, sealing-stays}
 use Rattle.user_tasks.specs.declared.creates.Stage.{Stage}
 use Rattle.user_tasks.specs.declared.creates.Stage.TheVariants.{Clearing, StoringCe, StoringDe}
-use Rattle.user_tasks.specs.Clearing.{IsNextToClear}
+use Rattle.user_tasks.specs.declared.looks.Looks.{Looks}
+use Rattle.user_tasks.specs.Looks.{IsNextToClear}
 use Rattle.user_tasks.specs.Create.{Creating, Stores, IsStage, IsCreating, IsCreate, create_rest, rest_at}
 use Rattle.user_tasks.specs.Create.{ce_frame, de_frame}
 use Rattle.user_tasks.specs.Create.{sealed_at, after, after_ce, after_de, hears, creates}
 use Rattle.user_tasks.specs.Stores.{op_turn, IsStoreTurn}
 use Rattle.user_tasks.specs.Tasks.{UserTurns}
 use Rattle.blob_custody.proofs.Steps.{lets-none}
-use Rattle.user_tasks.proofs.AsideOps.{aside-step, aside-gains, debris-gains}
+use Rattle.fixate_task.proofs.Fixing.{removal-gains}
+use Rattle.user_tasks.proofs.AsideOps.{aside-step, aside-gains}
 use Rattle.user_tasks.proofs.Cleared.{IsCleared, not-done, as-cleared}
 use Rattle.user_tasks.proofs.Placing.{IsWritten, written-at, ce-put, de-put}
 use Rattle.user_tasks.proofs.Whole.{same-parts}
-use Rattle.user_tasks.proofs.Writing.{leads-to, IsFramed, store-has, framed-shows}
+use Rattle.user_tasks.proofs.Leading.{leads-to}
+use Rattle.user_tasks.proofs.Writing.{IsFramed, store-has, framed-shows}
 use Rattle.user_tasks.specs.declared.tasks.UserTask.TheVariants.{Create as OfCreate}
 
 -- the stage stays where the directory isn't at its place
@@ -245,14 +249,21 @@ module _ (user : ℕ) (birth : Birth) (ce de : Task) (first : ce.stage ≡ First
 aside-temp : (site : Site) → site ≢ Temp → touches (RemoveDir Temp) site ≡ false
 aside-temp site away = off-temp site away
 
+-- of a user who isn't there a removal lists nothing
+lists-none : (site : Site) (known : Option Record) → known ≡ None → drops_at site known ≡ 0
+lists-none De None none = refl
+lists-none (Ce slot) None none = refl
+lists-none Temp None none = refl
+lists-none site (Some known) none = cc
+
 -- the turns of a create, by its stage
-module _ (create : Creating) (is : IsCreating create) (way : Option Site) where
+module _ (create : Creating) (is : IsCreating create) (looks : Looks) where
   abbrev pub staged : Stage → Creating
   staged stage = record create { stage = stage }
 
-  pub at-stage : (stage : Stage) (next : Next) → create.stage ≡ stage → UserTurns (OfCreate (staged stage)) way next
-      → UserTurns (OfCreate create) way next
-  at-stage stage next here turns = subst (λ s. UserTurns (OfCreate (staged s)) way next) (sym here) turns
+  pub at-stage : (stage : Stage) (next : Next) → create.stage ≡ stage → UserTurns (OfCreate (staged stage)) looks next
+      → UserTurns (OfCreate create) looks next
+  at-stage stage next here turns = subst (λ s. UserTurns (OfCreate (staged s)) looks next) (sym here) turns
 
   pub stage-fits : (stage : Stage) → create.stage ≡ stage → IsStage create.ce create.de stage
   stage-fits stage here = subst (IsStage create.ce create.de) here is.stage
@@ -278,7 +289,7 @@ module _ (create : Creating) (is : IsCreating create) (way : Option Site) where
     removes-gains : (site : Site) → IsNextToClear (own_view scene.share.own) (Some site)
         → Gains scene.share.own (RemoveDir site) []
     removes-gains De clear = absurd clear.0
-    removes-gains (Ce slot) clear = debris-gains scene.share.own slot no-device
+    removes-gains (Ce slot) clear = removal-gains scene.share.own slot
     removes-gains Temp clear = aside-gains scene.share.own (RemoveDir Temp) aside-temp
 
     clear-shows : (site : Site) → IsNextToClear (own_view scene.share.own) (Some site)
@@ -301,7 +312,7 @@ module _ (create : Creating) (is : IsCreating create) (way : Option Site) where
           known = (tt, (tt, (tt, tt)));
           serves = serves;
           same_user = refl;
-          falls = omega arith;
+          falls = omega (arith, lists-none site (own_record scene.share.own) has.0);
           makes = omega arith;
           draws = omega arith;
         });
@@ -338,17 +349,17 @@ module _ (create : Creating) (is : IsCreating create) (way : Option Site) where
           ),
         )
 
-  pub clear-turn : (site : Site) (next : Next) → create.stage ≡ Clearing → way ≡ Some site
+  pub clear-turn : (site : Site) (next : Next) → create.stage ≡ Clearing → looks.in_the_way ≡ Some site
       → next ≡ CallNext (OpCall create.user (RemoveDir site) None) None
-      → UserTurns (OfCreate create) way next
+      → UserTurns (OfCreate create) looks next
   clear-turn site next here first named = at-stage Clearing next here
       (λ scene sound clear rests. subst (TurnShows (seen_of creates (staged Clearing)) scene) (sym named)
       (clear-shows scene sound.images rests.facts site
       (subst (IsNextToClear (own_view scene.share.own)) first clear.clear)
       rests.serves))
 
-  pub begin-turn : (next : Next) → create.stage ≡ Clearing → way ≡ None → IsStoreTurn create.user create.ce None next
-      → UserTurns (OfCreate create) way next
+  pub begin-turn : (next : Next) → create.stage ≡ Clearing → looks.in_the_way ≡ None
+      → IsStoreTurn create.user create.ce None next → UserTurns (OfCreate create) looks next
   begin-turn next here nothing turn = at-stage Clearing next here
       (λ scene sound clear rests.
       let stages = stage-fits Clearing here in
@@ -360,7 +371,7 @@ module _ (create : Creating) (is : IsCreating create) (way : Option Site) where
       (record { command = rests.serves.command; born = rests.serves.born; changes = rests.serves.changes }) next turn))
 
   pub ce-turn : (next : Next) → create.stage ≡ StoringCe → IsStoreTurn create.user create.ce None next
-      → UserTurns (OfCreate create) way next
+      → UserTurns (OfCreate create) looks next
   ce-turn next here turn = at-stage StoringCe next here
       (λ scene sound clear rests.
       ce-shows create.user create.birth create.ce create.de is.ce is.de scene (stage-fits StoringCe here).1 rests.facts
@@ -368,7 +379,7 @@ module _ (create : Creating) (is : IsCreating create) (way : Option Site) where
 
   pub de-turn : (next : Next) → create.stage ≡ StoringDe
       → IsStoreTurn create.user create.de (Some (Born create.birth)) next
-      → UserTurns (OfCreate create) way next
+      → UserTurns (OfCreate create) looks next
   de-turn next here turn = at-stage StoringDe next here
       (λ scene sound clear rests.
       de-shows create.user create.birth create.ce create.de is.ce is.de scene (stage-fits StoringDe here).0 rests.facts

@@ -42,7 +42,7 @@ use Rattle.task_turns.specs.declared.calls.Call.TheVariants.{Op as OpCall}
 use Rattle.task_turns.specs.Names.{Gains}
 use Rattle.task_turns.specs.Shares.{Has, AllHas, IsSound, IsUnder}
 use Rattle.task_turns.specs.Turns.{seen_of, Scene, noting, CallShows, evidence_in, opening_secret}
-use Rattle.open_task.specs.Task.{Opening}
+use Rattle.open_task.specs.Task.{Opening, slot_at_hand}
 use Rattle.store_task.specs.declared.turns.StoreSpec.{StoreSpec}
 use Rattle.store_task.specs.declared.stages.Stage.TheVariants.{Storing as StoringStage}
 use Rattle.store_task.specs.declared.stages.Progress.TheVariants.{Settled}
@@ -56,7 +56,8 @@ use Rattle.user_tasks.specs.Tasks.{tasks}
 use Rattle.user_tasks.proofs.Openings.{under-first}
 use Rattle.user_tasks.proofs.AsideOps.{lets-all}
 use Rattle.user_tasks.proofs.Placing.{held-brings}
-use Rattle.user_tasks.proofs.Writing.{leads-to}
+use Rattle.user_tasks.proofs.Leading.{leads-to}
+use Rattle.user_tasks.proofs.Rights.{keeps-right}
 
 -- a directory that is renamed into a free slot, where nothing is pending
 module _ (own : OwnWorld) (still : own.pending ≡ []) (slot : Slot) (files : Files)
@@ -91,10 +92,10 @@ module _ (own : OwnWorld) (still : own.pending ≡ []) (slot : Slot) (files : Fi
         (names-set cleared slot (Some files) blob present (option-from (named_at (Some files)) blob has));
     kept = λ blob names.
         let was = same-names (own_view own) cleared blob refl (λ s. refl) names in
-        subst (λ p. PartNames p blob) (sym put-is) (elim (names-old cleared slot (Some files) blob was) [
+        inl (subst (λ p. PartNames p blob) (sym put-is) (elim (names-old cleared slot (Some files) blob was) [
           | inl kept ↦ kept
           | inr old ↦ absurd (not-both (named_at (own_view own (Ce slot))) blob (ap named_at free) old)
-        ]);
+        ]));
   }
 
 held-list : (found : Option Blob) → option_to_list found ≡ held_by found
@@ -155,8 +156,8 @@ module _ (made : Birth) (opening : Opening) (spec : StoreSpec) (job : ℕ) (blob
     known-key : SealedStands noted opening.user (standing (own_view own)) known
         → NoChanceMatch (noted.attempts opening.user) → spec.key ≡ key_of noted.seed ForCe opening.user known.birth
     known-key stands match =
-        (slots-tell noted opening.user (own_view own) known has.0.slot has.0.files opening.secret stands
-        has.0.there).right match has.1.1.1.0 spec.key has.0.opens.opens_to
+        (slots-tell noted opening.user (own_view own) known (slot_at_hand opening.left) has.0.files opening.secret
+        stands has.0.there).right match has.1.1.1.0 spec.key has.0.opens.opens_to
 
     -- and so the directory is as the change says
     as-made : spec.secret ≢ [] → spec.key ≡ key_of noted.seed ForCe opening.user known.birth
@@ -274,8 +275,10 @@ module _ (made : Birth) (opening : Opening) (spec : StoreSpec) (job : ℕ) (blob
             );
         right = subst (λ command. IfSome (opening_secret command) (IsUnder scene.share opening.user))
             (sym serves.command)
-            (under-first opening.user scene.share sound has.0.present opening.secret spec.key has.0
-            has.1.1.1.0);
+            (under-first opening.user scene.share sound has.0.present opening.secret (slot_at_hand opening.left)
+            spec.key has.0 has.1.1.1.0);
+        keeps = keeps-right scene opening.user change (λ attempts known secret. tt);
+        keyless = tt;
       };
       lasts = omega arith;
     }

@@ -2,7 +2,6 @@
 use Rattle.std.proofs.Common.{◌≡◌, ℕ, sym, subst, inl, inr}
 use Rattle.std.specs.Prelude.{Option, None}
 use Rattle.tree_model.specs.declared.blobs.Blob.{Blob}
-use Rattle.tree_model.specs.declared.sites.Site.{Site}
 use Rattle.tree_model.specs.declared.sites.LocalOp.{LocalOp}
 use Rattle.tree_model.specs.declared.sites.LocalOp.TheVariants.{MakeDir, Write, RenameFile, RenameDir, RemoveFile}
 use Rattle.tree_model.specs.declared.sites.LocalOp.TheVariants.{RemoveDir}
@@ -18,7 +17,8 @@ use Rattle.store_task.specs.Task.{Task, facts_of}
 use Rattle.store_task.specs.Turns.{DoingShows}
 use Rattle.user_tasks.specs.declared.creates.Stage.{Stage}
 use Rattle.user_tasks.specs.declared.creates.Stage.TheVariants.{Clearing, StoringCe, StoringDe}
-use Rattle.user_tasks.specs.Clearing.{IsNextToClear}
+use Rattle.user_tasks.specs.declared.looks.Looks.{Looks}
+use Rattle.user_tasks.specs.Looks.{IsNextToClear}
 use Rattle.user_tasks.specs.Create.{Creating, IsCreating}
 use Rattle.user_tasks.specs.Stores.{turn_of, op_turn, IsStoreTurn}
 use Rattle.user_tasks.specs.Tasks.{IsNumbered, UserJobs}
@@ -65,36 +65,36 @@ de-job create (WorkNext job) is = inr is
 de-job create (CallNext call change) is = tt
 de-job create (ReplyNext reply) is = tt
 
-pub call-jobs : (create : Creating) (way : Option Site) (next : Next) (call : Call) (change : Option LocalChange)
-    → next ≡ CallNext call change → UserJobs (OfCreate create) way next
-call-jobs create way next call change named =
-    subst (UserJobs (OfCreate create) way) (sym named) (λ scene sound clear rests. tt)
+pub call-jobs : (create : Creating) (looks : Looks) (next : Next) (call : Call) (change : Option LocalChange)
+    → next ≡ CallNext call change → UserJobs (OfCreate create) looks next
+call-jobs create looks next call change named =
+    subst (UserJobs (OfCreate create) looks) (sym named) (λ scene sound clear rests. tt)
 
-module _ (create : Creating) (is : IsCreating create) (way : Option Site) where
+module _ (create : Creating) (is : IsCreating create) (looks : Looks) where
   at-stage : (stage : Stage) (next : Next) → create.stage ≡ stage
-      → UserJobs (OfCreate (record create { stage = stage })) way next
-      → UserJobs (OfCreate create) way next
+      → UserJobs (OfCreate (record create { stage = stage })) looks next
+      → UserJobs (OfCreate create) looks next
   at-stage stage next here jobs =
-      subst (λ s. UserJobs (OfCreate (record create { stage = s })) way next) (sym here) jobs
+      subst (λ s. UserJobs (OfCreate (record create { stage = s })) looks next) (sym here) jobs
 
-  pub begin-jobs : (next : Next) → create.stage ≡ Clearing → way ≡ None
+  pub begin-jobs : (next : Next) → create.stage ≡ Clearing → looks.in_the_way ≡ None
       → IsStoreTurn create.user create.ce None next
-      → UserJobs (OfCreate create) way next
+      → UserJobs (OfCreate create) looks next
   begin-jobs next here nothing turn = at-stage Clearing next here
       (λ scene sound clear rests.
-      let has = begun-has create is way scene sound.images rests.facts (stage-fits create is way Clearing here).0
+      let has = begun-has create is looks scene sound.images rests.facts (stage-fits create is looks Clearing here).0
       (subst (IsNextToClear (own_view scene.share.own)) nothing clear.clear) in
       ce-job create next (store-job create.user create.ce None scene.share next has.1.1.1.1 turn))
 
   pub ce-jobs : (next : Next) → create.stage ≡ StoringCe → IsStoreTurn create.user create.ce None next
-      → UserJobs (OfCreate create) way next
+      → UserJobs (OfCreate create) looks next
   ce-jobs next here turn = at-stage StoringCe next here
       (λ scene sound clear rests.
       ce-job create next (store-job create.user create.ce None scene.share next rests.facts.1.1.1.1 turn))
 
   pub de-jobs : (change : Option LocalChange) (next : Next) → create.stage ≡ StoringDe
       → IsStoreTurn create.user create.de change next
-      → UserJobs (OfCreate create) way next
+      → UserJobs (OfCreate create) looks next
   de-jobs change next here turn = at-stage StoringDe next here
       (λ scene sound clear rests.
       de-job create next (store-job create.user create.de change scene.share next rests.facts.1.1.1.1.1 turn))

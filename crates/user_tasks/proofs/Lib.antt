@@ -1,6 +1,10 @@
 mod Whole
+mod Leading
+mod Rights
+mod Ending
 mod NewUsers
 mod AsideOps
+mod Preparing
 mod Writing
 mod Cleared
 mod Openings
@@ -11,7 +15,15 @@ mod Installing
 mod AskedJobs
 mod JobNumbers
 mod LockTurns
+mod Fixing
+mod Kept
 mod UnlockTurns
+mod FixateTurns
+mod Removing
+mod DestroyTurns
 mod ProtectTurns
+mod ProtectShown
 mod Begun
+mod BegunProtects
+mod BegunSlots
 mod Refuted

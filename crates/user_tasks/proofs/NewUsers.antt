@@ -1,7 +1,7 @@
 -- The rename that makes a user: both directories open to the keys of the birth, and the user's directories name the
 -- two blobs that were held.
 use Rattle.std.proofs.Common.{◌≡◌, ℕ, List, [], ◌∷◌, refl, sym, ap, ◌∙◌, subst, inr}
-use Rattle.std.specs.Prelude.{Option, Some, None, IfSome}
+use Rattle.std.specs.Prelude.{Option, Some, None}
 use Rattle.std.proofs.lemmas.Option.{same_Some}
 use Rattle.tree_model.specs.declared.blobs.Blob.{Blob}
 use Rattle.tree_model.specs.declared.places.Class.{Class}
@@ -30,9 +30,7 @@ use Rattle.key_directory.specs.Vaults.{Attempts, Vault, tag_at, NamesOwn, Sealed
 use Rattle.key_directory.specs.VaultLaws.{OpenBoth, two_directories}
 use Rattle.key_directory.proofs.Births.{births-stand}
 use Rattle.task_turns.specs.Names.{Gains}
-use Rattle.journal_model.specs.declared.commands.Command.TheVariants.{Create as CreateCommand}
-use Rattle.task_turns.specs.Shares.{Share, Has, Given, IsUnder}
-use Rattle.task_turns.specs.Turns.{Scene, GaveRight, opening_secret}
+use Rattle.task_turns.specs.Shares.{Share, Has, Given}
 use Rattle.store_task.specs.declared.turns.StoreSpec.{StoreSpec}
 use Rattle.store_task.specs.Task.{Task, IsTask, IsBoundBy, all_files, sealing}
 use Rattle.store_task.proofs.StoredFiles.{files-open, files-named, names-own}
@@ -159,8 +157,3 @@ module _ {share : Share} {user : ℕ} {birth : Birth} {ce de : Task} (ce_kept : 
       where
         in-view : IsUnborn (own_view own) de_kept.blob ce_kept.blob
         in-view = unborn-left (own_view own) (view-image own.stable own.pending)
-
--- a create opens no key
-pub gave-none : (scene : Scene) (user : ℕ) → scene.began.command ≡ CreateCommand user → GaveRight user scene
-gave-none scene user is =
-    subst (λ command. IfSome (opening_secret command) (IsUnder scene.share user)) (sym is) tt

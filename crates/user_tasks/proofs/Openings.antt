@@ -18,15 +18,15 @@ use Rattle.key_directory.specs.Vaults.{sealed, SealedStands}
 use Rattle.key_directory.proofs.Opened.{slots-tell, wrong-secret}
 use Rattle.task_turns.specs.declared.calls.Answer.{Answer}
 use Rattle.task_turns.specs.declared.calls.Answer.TheVariants.{Output, Directory, Decrypted}
-use Rattle.task_turns.specs.Shares.{Share, AreHeld, IsSound, IsUnder, IsFirstOpened, AreLeftToTry}
-use Rattle.task_turns.specs.Turns.{Tasks, Scene, Leads, IsGiven, TurnShows, evidence_in, seen_of, no_cost}
+use Rattle.task_turns.specs.Shares.{Share, AreHeld, IsSound, IsUnder, IsGiven, IsFirstOpened, AreLeftToTry}
+use Rattle.task_turns.specs.Turns.{Tasks, Scene, Leads, TurnShows, evidence_in, seen_of, no_cost}
 use Rattle.open_task.specs.declared.stages.Doing.{Doing}
 use Rattle.open_task.specs.declared.stages.Doing.TheVariants.{Read, Work, Decrypt}
 use Rattle.open_task.specs.declared.stages.Stage.{Stage}
 use Rattle.open_task.specs.declared.stages.Stage.TheVariants.{Reading, Read as ReadStage, Tied, Opened}
-use Rattle.open_task.specs.Task.{Opening, HasEnded, key_in, facts_at, asks_at, left_at}
+use Rattle.open_task.specs.Task.{Opening, key_in, facts_at, left_at}
 use Rattle.open_task.specs.Turns.{Leads as OpenLeads, DoingShows}
-use Rattle.user_tasks.specs.Unlock.{opening_turn}
+use Rattle.user_tasks.specs.Turns.{opening_turn}
 
 -- the task that opens it holds no blob
 pub holds-none : (secret : List ℕ) (left : List Slot) (stage : Stage) → AreHeld [] (facts_at secret left stage)
@@ -36,23 +36,6 @@ holds-none secret (slot ∷ slots) (ReadStage files) = (tt, (tt, tt))
 holds-none secret [] (Tied files app_id) = (tt, (tt, tt))
 holds-none secret (slot ∷ slots) (Tied files app_id) = (tt, (tt, (tt, tt)))
 holds-none secret left (Opened key) = (tt, tt)
-
--- while it goes on with the slots no key was opened
-pub no-key : (task : Opening) → ¬ (HasEnded task) → key_in task.stage ≡ None
-no-key task on = by task.stage on
-  where
-    by : (stage : Stage) → ¬ (HasEnded (record task { stage = stage })) → key_in stage ≡ None
-    by Reading on = refl
-    by (ReadStage files) on = refl
-    by (Tied files app_id) on = refl
-    by (Opened key) on = absurd (on refl)
-
--- nor where it asks for a job
-pub asked-key : (stage : Stage) (then : ℕ) → then < asks_at stage → key_in stage ≡ None
-asked-key Reading then fewer = absurd (omega arith)
-asked-key (ReadStage files) then fewer = refl
-asked-key (Tied files app_id) then fewer = absurd (omega arith)
-asked-key (Opened key) then fewer = absurd (omega arith)
 
 pub some-key : (stage : Stage) (key : List ℕ) → key_in stage ≡ Some key → stage ≡ Opened key
 some-key Reading key is = cc
@@ -88,7 +71,7 @@ module _ {T : Type 0} (tasks : Tasks T) (task : T) (opening : Opening) (scene : 
       };
     };
     may = tt;
-    lasts = lasts;
+    lasts = omega (arith, lasts);
   }
   opening-shows (Work job) works = record {
     held = still (Output (output_of job.input));
@@ -102,7 +85,7 @@ module _ {T : Type 0} (tasks : Tasks T) (task : T) (opening : Opening) (scene : 
       leads = leads-on (Decrypted (answer_in scene.share.vault blob app_id text)) decrypts.leads;
     };
     may = tt;
-    lasts = lasts;
+    lasts = omega (arith, lasts);
   }
 
 -- the user's record, for which the view stands
@@ -122,25 +105,25 @@ module _ (user : ℕ) (share : Share) (sound : IsSound user share) (present : Is
 
   -- what the first slot opens to that opens with a secret which was given is the user's key, where no tag matched by
   -- chance
-  pub given-first : (secret key : List ℕ) → IsFirstOpened share secret key
+  pub given-first : (secret : List ℕ) (slot : Slot) (key : List ℕ) → IsFirstOpened share secret slot key
       → WasGiven (share.vault.attempts user) secret → IsGiven share user ForCe key
-  given-first secret key opened gave = let is = known-user in record {
+  given-first secret slot key opened gave = let is = known-user in record {
     known = is.known;
     there = is.there;
     given = λ sure.
-        (slots-tell share.vault user (own_view share.own) is.known opened.slot opened.files secret is.stands
+        (slots-tell share.vault user (own_view share.own) is.known slot opened.files secret is.stands
         opened.there).right sure gave key opened.opens.opens_to;
   }
 
   -- and the secret is a right one
-  pub under-first : (secret key : List ℕ) → IsFirstOpened share secret key
+  pub under-first : (secret : List ℕ) (slot : Slot) (key : List ℕ) → IsFirstOpened share secret slot key
       → WasGiven (share.vault.attempts user) secret → IsUnder share user secret
-  under-first secret key opened gave = let is = known-user in record {
+  under-first secret slot key opened gave = let is = known-user in record {
     known = is.known;
     there = is.there;
     under = λ sure. record {
-      slot = opened.slot;
-      under = (slots-tell share.vault user (own_view share.own) is.known opened.slot opened.files secret is.stands
+      slot = slot;
+      under = (slots-tell share.vault user (own_view share.own) is.known slot opened.files secret is.stands
           opened.there).under sure gave key opened.opens.opens_to;
     };
   }

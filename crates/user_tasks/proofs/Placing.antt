@@ -15,6 +15,7 @@ use Rattle.tree_model.specs.Named.{named_at}
 use Rattle.tree_model.specs.Parts.{Part}
 use Rattle.tree_model.specs.Sites.{site_of}
 use Rattle.keystore_model.proofs.Elements.{Contains-first}
+use Rattle.journal_model.specs.declared.commands.Command.TheVariants.{Create as CreateCommand}
 use Rattle.journal_model.specs.declared.entries.Birth.{Birth}
 use Rattle.journal_model.specs.declared.entries.Change.TheVariants.{Create as CreateChange}
 use Rattle.journal_model.specs.Machine.{AllowsChange}
@@ -41,9 +42,10 @@ use Rattle.user_tasks.specs.Create.{Creating, Stores, IsCreate, create_rest, cre
 use Rattle.user_tasks.specs.Stores.{part}
 use Rattle.blob_custody.proofs.Steps.{lets-none}
 use Rattle.user_tasks.proofs.AsideOps.{absent-gains, lets-all}
-use Rattle.user_tasks.proofs.NewUsers.{sealing-tried, IsKept, keeps-born, born-gains, gave-none}
+use Rattle.user_tasks.proofs.NewUsers.{sealing-tried, IsKept, keeps-born, born-gains}
+use Rattle.user_tasks.proofs.Rights.{gave-none, keeps-right}
 use Rattle.user_tasks.proofs.Whole.{same-parts, always-here}
-use Rattle.user_tasks.proofs.Writing.{leads-to}
+use Rattle.user_tasks.proofs.Leading.{leads-to}
 
 -- a task that holds as much holds the same blob
 held-same : (named blob : Option Blob) → held_by named ≡ held_by blob → named ≡ blob
@@ -262,7 +264,9 @@ module _ (user : ℕ) (birth : Birth) (ce_spec de_spec : StoreSpec) (ce_job de_j
         may = record {
           allowed = subst (λ command. AllowsChange (evidence_in user scene.share) scene.boot scene.began command
               (CreateChange user birth)) (sym serves.command) (serves.changes, ap (CreateChange user) serves.born);
-          right = gave-none scene user serves.command;
+          right = gave-none scene user (CreateCommand user) serves.command refl;
+          keeps = keeps-right scene user (Born birth) (λ attempts known secret. tt);
+          keyless = tt;
         };
         lasts = omega arith;
       }

@@ -22,7 +22,7 @@ use Rattle.keystore_model.proofs.Elements.{Contains-none, Contains-first, Contai
 use Rattle.keystore_model.proofs.Stores.{bytes-same, bytes-apart}
 use Rattle.user_world.specs.declared.changes.LocalChange.TheVariants.{Born}
 use Rattle.user_world.specs.Meaning.{PartStands}
-use Rattle.user_world.specs.OwnWorlds.{OwnWorld, OwnImagesStand, settled}
+use Rattle.user_world.specs.OwnWorlds.{OwnWorld, OwnImagesStand, own_view, settled}
 use Rattle.blob_custody.proofs.Names.{absent}
 use Rattle.blob_custody.proofs.Renamings.{whole-rename}
 use Rattle.key_directory.specs.Vaults.{Vault, sealed}
@@ -34,11 +34,11 @@ use Rattle.store_task.specs.Task.{IsTask, all_files}
 use Rattle.store_task.proofs.StoredFiles.{files-named}
 use Rattle.user_tasks.specs.declared.creates.Stage.{Stage}
 use Rattle.user_tasks.specs.declared.creates.Stage.TheVariants.{StoringDe, Created, InstallingDe}
-use Rattle.user_tasks.specs.Clearing.{Finds}
+use Rattle.user_tasks.specs.Looks.{IsNextToClear, Finds}
 use Rattle.user_tasks.specs.Create.{new_record, create_rest, changes_at}
 use Rattle.user_tasks.specs.Stores.{part}
-use Rattle.user_tasks.specs.WrongPlans.{Plan, spec_of, text_of, blob_of, task_at, create_at, RepliesBeforeSync}
-use Rattle.user_tasks.specs.WrongPlans.{LeavesOutDevice, HidesChange, HidesBlob, TouchesOther}
+use Rattle.user_tasks.specs.WrongPlans.{Plan, spec_of, text_of, blob_of, task_at, create_at, finding}
+use Rattle.user_tasks.specs.WrongPlans.{RepliesBeforeSync, LeavesOutDevice, HidesChange, HidesBlob, TouchesOther}
 use Rattle.user_tasks.specs.WrongPlans.{RepliesBeforeKeys, InstallsOther}
 use Rattle.user_tasks.proofs.NewUsers.{IsKept, born}
 
@@ -99,6 +99,7 @@ module _ (plan : Plan) where
       index = plan.birth.index;
     };
     share = record { own = own; vault = vault; keys = λ class. None };
+    due = None;
   }
 
   -- nothing is pending, and the device key's directory was synced
@@ -135,10 +136,13 @@ module _ (plan : Plan) where
   }
 
   -- the temporary directory is in the way, and no directory stands that names a blob
-  finds-temp : Finds both_in (plan.ce_blob ∷ plan.de_blob ∷ []) (Some Temp)
+  finds-temp : Finds (scene_at StoringDe still) (plan.ce_blob ∷ plan.de_blob ∷ []) (finding (Some Temp))
   finds-temp = record {
     clear = (tt, refl, λ away. absurd (away refl));
     unnamed = λ blob has names. absent (both_in De) refl names.present;
+    durable = λ is. absurd (false≢true is);
+    due = refl;
+    spared = tt;
   }
 
   settled-rests : Rests (create_rest (create_at plan Settled StoringDe)) plan.birth.boot
@@ -197,10 +201,14 @@ module _ (plan : Plan) where
   }
 
   -- once the user is there the current credential directory is in the way, and no blob is held
-  finds-slot : Finds (after_local both_in (RenameDir Temp De)) [] (Some (Ce Current))
-  finds-slot = record {
-    clear = (tt, refl, λ away. refl);
+  finds-slot : (stage : Stage) (own : OwnWorld) → own_view own ≡ after_local both_in (RenameDir Temp De)
+      → Finds (scene_at stage own) [] (finding (Some (Ce Current)))
+  finds-slot stage own is = record {
+    clear = subst (λ view. IsNextToClear view (Some (Ce Current))) (sym is) (tt, refl, λ away. refl);
     unnamed = λ blob none. absurd (Contains-none blob none);
+    durable = λ is. absurd (false≢true is);
+    due = refl;
+    spared = tt;
   }
 
   created-rests : Rests (create_rest (create_at plan Stored Created)) plan.birth.boot
@@ -293,8 +301,9 @@ no-cons x xs e = cc
 pub replies-before-sync : RepliesBeforeSync
 replies-before-sync plan turns =
     let shows = turns (scene_at plan Created (pending_birth plan))
-    (sound-in plan (pending_birth plan) (created-stands plan)) (finds-slot plan)
-    (created-rests plan) in no-cons (Born plan.birth) [] shows.may.1.1
+    (sound-in plan (pending_birth plan) (created-stands plan))
+    (finds-slot plan Created (pending_birth plan) refl) (created-rests plan) in
+    no-cons (Born plan.birth) [] shows.may.1.1
 
 pub leaves-out-device : LeavesOutDevice
 leaves-out-device plan turns =
@@ -323,13 +332,15 @@ touches-other plan other apart turns =
 pub replies-before-keys : RepliesBeforeKeys
 replies-before-keys plan turns =
     let shows = turns (scene_at plan InstallingDe (lasting_birth plan))
-    (sound-in plan (lasting_birth plan) (lasting-stands plan)) (finds-slot plan)
+    (sound-in plan (lasting_birth plan) (lasting-stands plan))
+    (finds-slot plan InstallingDe (lasting_birth plan) refl)
     (installing-rests plan) in false≢true shows.may.2.1
 
 pub installs-other : InstallsOther
 installs-other plan key differ turns =
     let given = (turns (scene_at plan InstallingDe (lasting_birth plan))
-    (sound-in plan (lasting_birth plan) (lasting-stands plan)) (finds-slot plan)
+    (sound-in plan (lasting_birth plan) (lasting-stands plan))
+    (finds-slot plan InstallingDe (lasting_birth plan) refl)
     (installing-rests plan)).stands.given in
     differ (given.given tt
     ∙ sym (ap (λ (known : Record). key_of plan.seed ForDe plan.user known.birth) (same_Some _ _ given.there)))

@@ -1,208 +1,339 @@
 -- Each turn of an unlock shows what it has to.
-use Rattle.std.proofs.Common.{◌≡◌, ◌<◌, ℕ, List, [], refl, sym, ap, ◌∙◌, subst, arith}
-use Rattle.std.specs.Prelude.{Bool, true, false, Option, Some, None, IfSome}
+use Rattle.std.proofs.Common.{◌≡◌, ℕ, ◌<◌, ◌≤◌, Bool, true, false, cond, List, [], ◌∷◌, length, refl, sym, ap}
+use Rattle.std.proofs.Common.{subst, arith}
+use Rattle.std.specs.Prelude.{Option, Some, None}
+use Rattle.std.specs.Ordering.{eq_by_cmp}
 use Rattle.tree_model.specs.declared.places.Class.TheVariants.{Ce as ForCe}
-use Rattle.tree_model.specs.declared.places.Slot.{Slot}
-use Rattle.tree_model.specs.declared.sites.Site.{Site}
+use Rattle.tree_model.specs.declared.places.Slot.TheVariants.{Current}
+use Rattle.tree_model.specs.Order.{slot_cmp}
 use Rattle.journal_model.specs.declared.commands.Reply.TheVariants.{Done as DoneReply, WrongSecret}
-use Rattle.journal_model.specs.Machine.{DidWork, GaveWrongSecret, Installs}
-use Rattle.step_core.specs.Jobs.{output_of}
+use Rattle.journal_model.specs.Machine.{AllowsChange, DidWork, GaveWrongSecret, Installs}
+use Rattle.user_world.specs.Changes.{change_of}
+use Rattle.user_world.specs.Facts.{Durable, Holds}
 use Rattle.task_turns.specs.declared.calls.Answer.{Answer}
-use Rattle.task_turns.specs.declared.calls.Answer.TheVariants.{Done, Output}
+use Rattle.task_turns.specs.declared.calls.Answer.TheVariants.{Done, Installed}
+use Rattle.task_turns.specs.declared.calls.Call.TheVariants.{Sync}
 use Rattle.task_turns.specs.declared.next.Next.{Next}
 use Rattle.task_turns.specs.declared.next.Next.TheVariants.{Reply as ReplyNext}
-use Rattle.task_turns.specs.Shares.{AllHas, IsSound, IsUnder}
-use Rattle.task_turns.specs.Turns.{Scene, Rests, Leads, Asks, TurnShows, evidence_in, opening_secret, seen_of, no_cost}
-use Rattle.open_task.specs.declared.stages.Doing.{Doing}
-use Rattle.open_task.specs.declared.stages.Doing.TheVariants.{Read, Work, Decrypt}
-use Rattle.open_task.specs.declared.stages.Stage.{Stage}
-use Rattle.open_task.specs.declared.stages.Stage.TheVariants.{Reading, Opened}
-use Rattle.open_task.specs.Task.{HasEnded, key_in, after as open_after}
-use Rattle.open_task.specs.Turns.{Leads as OpenLeads, OpenTurns, OpenAsks, DoingShows}
+use Rattle.task_turns.specs.Shares.{Share, NewestUnder, MadeKey, HasSlots, IsKeptUnder, IsGiven, AllHas, IsSound}
+use Rattle.task_turns.specs.Turns.{Scene, Rests, Leads, TurnShows, evidence_in, no_cost, seen_of}
+use Rattle.task_turns.specs.Turns.{with_key, tells_deletes}
+use Rattle.open_task.specs.declared.stages.Doing.{Doing as OpenDoing}
+use Rattle.open_task.specs.Task.{HasEnded, key_in, slot_at_hand, facts_at as open_facts_at, after as open_after}
+use Rattle.open_task.specs.Turns.{Leads as OpenLeads, OpenTurns}
+use Rattle.fixate_task.specs.declared.task.Doing.{Doing as FixDoing}
+use Rattle.fixate_task.specs.Task.{Fixing as FixTask, without, has_ended, change_by}
+use Rattle.fixate_task.specs.Turns.{FixTurns}
+use Rattle.fixate_task.proofs.Without.{length-without}
+use Rattle.user_tasks.specs.declared.looks.Looks.{Looks}
 use Rattle.user_tasks.specs.declared.tasks.UserTask.TheVariants.{Unlock as OfUnlock}
 use Rattle.user_tasks.specs.declared.unlocks.Unlock.{Unlock}
-use Rattle.user_tasks.specs.Tasks.{UserTurns, UserJobs, tasks, rest_of}
-use Rattle.user_tasks.specs.Unlock.{rest_at, unlock_rest, after_with, hears_with, opening_turn}
-use Rattle.user_tasks.specs.Unlock.{ending_turn, facts_at, asks_of}
-use Rattle.user_tasks.proofs.Openings.{holds-none, no-key, asked-key, some-key, none-left, opening-shows, given-first}
-use Rattle.user_tasks.proofs.Openings.{under-first, gave-wrong}
-use Rattle.user_tasks.proofs.Writing.{leads-to}
+use Rattle.user_tasks.specs.declared.unlocks.UnlockStage.{UnlockStage}
+use Rattle.user_tasks.specs.declared.unlocks.UnlockStage.TheVariants.{Opening as IsOpening, Fixing, Installing, Ending}
+use Rattle.user_tasks.specs.Tasks.{UserTurns, tasks}
+use Rattle.user_tasks.specs.Turns.{quiet_turn, opening_turn, fixing_turn, ending_turn}
+use Rattle.user_tasks.specs.Unlock.{IsUnlock, facts_at, unlock_rest, with_opened, after_step, adding_turn}
+use Rattle.user_tasks.proofs.Ending.{IsEnding, ending-shows}
+use Rattle.user_tasks.proofs.Fixing.{at_end, ended-is, Frame, IsFixing, fixing_rest, fixing-shows, moves-on, one-slot}
+use Rattle.user_tasks.proofs.Fixing.{KeepsUser, keeps-synced, slots-last, ends-none}
+use Rattle.user_tasks.proofs.Kept.{keeps-slots, kept-under, under-then, given-then, under-last, given-last}
+use Rattle.user_tasks.proofs.Kept.{unlock-right, unlock-keeps}
+use Rattle.user_tasks.proofs.Leading.{LeadsTo, leads-to}
+use Rattle.user_tasks.proofs.Openings.{holds-none, some-key, none-left, opening-shows, given-first, gave-wrong}
 
-module _ (unlock : Unlock) (still : unlock.installed ≡ false) where
-  -- where it rests while it opens the key
-  rests-opening : unlock_rest unlock ≡ rest_at false unlock.opening
-  rests-opening = ap (λ installed. rest_at installed unlock.opening) still
+-- a test counts for one at most
+one-most : (test : Bool) → cond test 0 1 ≤ 1
+one-most true = omega arith
+one-most false = omega arith
 
-  has-opening : (scene : Scene) → AllHas (unlock_rest unlock).facts scene.share
-      → AllHas (facts_at false unlock.opening) scene.share
-  has-opening scene has = subst (λ rest. AllHas rest.facts scene.share) rests-opening has
+module _ (unlock : Unlock) where
+  abbrev pub staged : UnlockStage → Unlock
+  staged stage = record unlock { stage = stage }
 
-  module _ (none : key_in unlock.opening.stage ≡ None) (scene : Scene) where
-    then-rests : (answer : Answer)
-        → rest_of (tasks.after (OfUnlock unlock) answer) ≡ rest_at false (open_after unlock.opening answer)
-    then-rests answer =
-        ap (λ key. unlock_rest (after_with key unlock answer)) none
-        ∙ ap (λ installed. rest_at installed (open_after unlock.opening answer)) still
+  at-stage : (stage : UnlockStage) (looks : Looks) (next : Next) → unlock.stage ≡ stage
+      → UserTurns (OfUnlock (staged stage)) looks next → UserTurns (OfUnlock unlock) looks next
+  at-stage stage looks next here turns = subst (λ s. UserTurns (OfUnlock (staged s)) looks next) (sym here) turns
 
-    -- what the task that opens it shows is what it shows
-    leads-on : Rests (rest_of (OfUnlock unlock)) scene.boot scene.began scene.share → (answer : Answer)
-        → OpenLeads unlock.opening answer scene.share
-        → Leads (seen_of tasks (OfUnlock unlock)) answer scene None no_cost scene.share
-    leads-on rests answer leads =
-        leads-to tasks (OfUnlock unlock) answer (subst (λ key. hears_with key unlock answer) (sym none) leads.answers)
-        rests-opening (then-rests answer) (record {
-          facts = ((has-opening scene rests.facts).0, leads.facts);
-          known = (tt, holds-none unlock.opening.secret _ (open_after unlock.opening answer).stage);
+  -- while the key is being opened
+  module _ (scene : Scene) (sound : IsSound unlock.opening.user scene.share)
+      (rests : Rests (unlock_rest (staged IsOpening)) scene.boot scene.began scene.share) (answer : Answer)
+      (leads : OpenLeads unlock.opening answer scene.share) where
+    abbrev opened_later : Unlock
+    opened_later = record unlock { opening = open_after unlock.opening answer; stage = IsOpening }
+
+    -- another slot is at hand, or one opened, which is kept from then on
+    opened-leads : (key : Option (List ℕ)) → key_in opened_later.opening.stage ≡ key
+        → LeadsTo scene (unlock_rest (staged IsOpening)) (unlock_rest (with_opened key opened_later)) None no_cost
+        scene.share
+    opened-leads None none = record {
+      facts = (rests.facts.0, (rests.facts.1.0, leads.facts));
+      known = (tt, (tt, holds-none unlock.opening.secret _ opened_later.opening.stage));
+      serves = record { command = rests.serves.command; changes = rests.serves.changes; shut = none };
+      same_user = refl;
+      falls = omega (arith, leads.falls);
+      makes = omega arith;
+      draws = omega arith;
+    }
+    opened-leads (Some key) is =
+        let user = unlock.opening.user in
+        let secret = unlock.opening.secret in
+        let others = unlock.fixing.others in
+        let slot = slot_at_hand opened_later.opening.left in
+        let opened = (subst (λ stage. AllHas (open_facts_at secret opened_later.opening.left stage) scene.share)
+        (some-key opened_later.opening.stage key is) leads.facts).0 in
+        let gave = rests.facts.0 in
+        let fewer : length (without slot others) ≤ length others = length-without slot others in
+        let one : cond (eq_by_cmp slot_cmp slot Current) 0 1 ≤ 1 = one-most _ in record {
+          facts = (
+            keeps-slots user scene.share sound secret slot key opened others rests.facts.1.0,
+            (
+              kept-under user scene.share sound secret slot key opened gave,
+              (given-first user scene.share sound opened.present secret slot key opened gave, tt),
+            ),
+          );
+          known = (tt, (tt, (tt, tt)));
           serves = record { command = rests.serves.command };
           same_user = refl;
-          falls = omega (arith, leads.falls);
+          falls = omega arith;
           makes = omega arith;
           draws = omega arith;
+        }
+
+    leads-on : Leads (seen_of tasks (OfUnlock (staged IsOpening))) answer scene None no_cost scene.share
+    leads-on = leads-to tasks (OfUnlock (staged IsOpening)) answer leads.answers refl refl
+        (opened-leads (key_in opened_later.opening.stage) refl)
+
+  pub opens-turn : unlock.stage ≡ IsOpening → (doing : OpenDoing) → OpenTurns unlock.opening (Some doing)
+      → (looks : Looks) → UserTurns (OfUnlock unlock) looks (opening_turn unlock.opening.user doing)
+  opens-turn here doing turns looks = at-stage IsOpening looks (opening_turn unlock.opening.user doing) here
+      (λ scene sound finds rests.
+      opening-shows tasks (OfUnlock (staged IsOpening)) unlock.opening scene refl (omega arith) (λ answer. refl)
+      (leads-on scene sound rests) doing (turns.1 scene.share sound rests.facts.1.1))
+
+  -- no slot is left
+  pub refuses-turn : unlock.stage ≡ IsOpening → HasEnded unlock.opening → (looks : Looks)
+      → UserTurns (OfUnlock unlock) looks (ReplyNext WrongSecret)
+  refuses-turn here ended looks = at-stage IsOpening looks (ReplyNext WrongSecret) here (λ scene sound finds rests.
+      let secret = unlock.opening.secret in
+      let nothing = none-left unlock.opening.stage unlock.opening.left ended rests.serves.shut in
+      let left = (subst (λ stage. AllHas (open_facts_at secret [] stage) scene.share) nothing.0
+      (subst (λ slots. AllHas (open_facts_at secret slots unlock.opening.stage) scene.share) nothing.1
+      rests.facts.1.1)).0 in record {
+        outcome = refl;
+        may = subst (GaveWrongSecret (evidence_in unlock.opening.user scene.share) scene.began)
+            (sym rests.serves.command) (
+              rests.serves.changes,
+              gave-wrong unlock.opening.user scene.share sound left.present secret left,
+            );
+        right = λ opened. absurd opened;
+        gone = λ is. cc;
+        lasts = omega arith;
+        held = refl;
+      })
+
+  -- while the slot that opened is made the user's one
+  module _ (key : List ℕ) where
+    abbrev frame_of : Frame
+    frame_of = record {
+      user = unlock.opening.user;
+      facts = λ kept. NewestUnder unlock.opening.user unlock.opening.secret kept
+          ∷ MadeKey unlock.opening.user ForCe key ∷ [];
+      serves = IsUnlock unlock.opening.user unlock.opening.secret;
+      more = 3;
+    }
+
+    is-fixing : IsFixing tasks (OfUnlock (staged (Fixing key))) frame_of unlock.fixing
+    is-fixing = record {
+      rests = refl;
+      hears = tt;
+      goes_on = λ on. ap (λ ended. unlock_rest (after_step ended key (staged (Fixing key)))) on;
+      behind = omega arith;
+    }
+
+    pub drops-turn : unlock.stage ≡ Fixing key → (doing : FixDoing) → has_ended unlock.fixing ≡ false
+        → FixTurns unlock.fixing (Some doing) → (looks : Looks)
+        → UserTurns (OfUnlock unlock) looks (fixing_turn unlock.opening.user doing)
+    drops-turn here doing on turns looks = at-stage (Fixing key) looks (fixing_turn unlock.opening.user doing) here
+        (λ scene sound finds rests.
+        let user = unlock.opening.user in
+        let secret = unlock.opening.secret in
+        let slots = rests.facts.0 in
+        let under = rests.facts.1.0 in
+        let given = rests.facts.1.1.0 in
+        let shows = turns user scene.share sound slots in
+        fixing-shows tasks (OfUnlock (staged (Fixing key))) frame_of unlock.fixing is-fixing scene doing on (record {
+          shows = shows;
+          facts = (
+            under-then scene.share unlock.fixing doing user secret under
+                (moves-on user scene.share unlock.fixing doing under.known slots shows under.there),
+            (
+              given-then scene.share unlock.fixing doing user ForCe key given
+                  (moves-on user scene.share unlock.fixing doing given.known slots shows given.there),
+              tt,
+            ),
+          );
+          known = (tt, (tt, tt));
+          serves = record { command = rests.serves.command };
+          may = record {
+            allowed = subst (λ command. AllowsChange (evidence_in user scene.share) scene.boot scene.began command
+                (change_of user (change_by doing))) (sym rests.serves.command) (
+                  slots.known,
+                  (refl, slots.there),
+                  (unlock.fixing.kept, slots.has_kept, shows.allowed slots.known slots.there),
+                );
+            right = unlock-right scene user secret rests.serves.command unlock.fixing.kept under;
+            keeps = unlock-keeps scene user secret rests.serves.command unlock.fixing.kept under doing
+                (shows.allowed under.known under.there);
+            keyless = ends-none scene.share doing;
+          };
+        }))
+
+    -- what it rests on behind the last change
+    has-ended : has_ended unlock.fixing ≡ true → (share : Share) → AllHas (facts_at (Fixing key) unlock) share
+        → AllHas (fixing_rest frame_of at_end).facts share
+    has-ended ended share has = subst (λ (fixing : FixTask). AllHas (fixing_rest frame_of fixing).facts share)
+        (ended-is unlock.fixing ended) has
+
+    -- which is made durable
+    then-installs : has_ended unlock.fixing ≡ true
+        → unlock_rest (after_step (has_ended unlock.fixing) key (staged (Fixing key)))
+        ≡ unlock_rest (staged (Installing key))
+    then-installs ended = ap (λ e. unlock_rest (after_step e key (staged (Fixing key)))) ended
+
+    pub sync-turn : unlock.stage ≡ Fixing key → has_ended unlock.fixing ≡ true → (looks : Looks)
+        → UserTurns (OfUnlock unlock) looks (quiet_turn Sync)
+    sync-turn here ended looks = at-stage (Fixing key) looks (quiet_turn Sync) here (λ scene sound finds rests.
+        let user = unlock.opening.user in
+        let facts = has-ended ended scene.share rests.facts in
+        let keeps = keeps-synced scene.share in record {
+          stands = record {
+            quiet = refl;
+            held = ap (λ rest. rest.held) (then-installs ended);
+            leads = leads-to tasks (OfUnlock (staged (Fixing key))) Done tt refl (then-installs ended) (record {
+              facts = (
+                slots-last scene.share _ keeps Current [] facts.0,
+                (
+                  refl,
+                  (
+                    under-last scene.share _ keeps user unlock.opening.secret Current facts.1.0,
+                    (given-last scene.share _ keeps user ForCe key facts.1.1.0, tt),
+                  ),
+                ),
+              );
+              known = (tt, (tt, (tt, (tt, tt))));
+              serves = record { command = rests.serves.command };
+              same_user = refl;
+              falls = omega arith;
+              makes = omega arith;
+              draws = omega arith;
+            });
+          };
+          may = tt;
+          lasts = omega arith;
         })
 
-    still-held : (answer : Answer)
-        → (rest_of (tasks.after (OfUnlock unlock) answer)).held ≡ (rest_of (OfUnlock unlock)).held
-    still-held answer = ap (λ rest. rest.held) (then-rests answer)
+  -- the current slot is the user's one, durable, and the newest under the secret
+  record IsFixed (share : Share) : Type 0 where
+    slots : HasSlots share Current []
+    durable : Holds Durable share.own
+    under : IsKeptUnder share unlock.opening.user unlock.opening.secret Current
 
-    shows : (doing : Doing) → DoingShows unlock.opening scene.share doing
-        → Rests (rest_of (OfUnlock unlock)) scene.boot scene.began scene.share
-        → TurnShows (seen_of tasks (OfUnlock unlock)) scene (opening_turn unlock.opening.user doing)
-    shows doing doing_shows rests = opening-shows tasks (OfUnlock unlock) unlock.opening scene refl
-        (omega (arith, ap (λ rest. rest.left) rests-opening)) still-held (leads-on rests) doing doing_shows
+  -- and the key comes into the ring
+  record IsReady (stage : UnlockStage) (key : List ℕ) (scene : Scene) : Type 1 where
+    hears : tasks.hears (OfUnlock (staged stage)) Installed
+    then : tasks.rest_of (tasks.after (OfUnlock (staged stage)) Installed) ≡ unlock_rest (staged Ending)
+    behind : 1 < (unlock_rest (staged stage)).left
+    serves : IsUnlock unlock.opening.user unlock.opening.secret scene.boot scene.began
+    fixed : IsFixed scene.share
+    given : IsGiven scene.share unlock.opening.user ForCe key
 
-  -- a turn that opens the key
-  pub opens-turn : (doing : Doing) → OpenTurns unlock.opening (Some doing) → (site : Option Site)
-      → UserTurns (OfUnlock unlock) site (opening_turn unlock.opening.user doing)
-  opens-turn doing turns site = λ scene sound clear rests.
-      shows (no-key unlock.opening turns.0) scene doing
-      (turns.1 scene.share sound (has-opening scene rests.facts).1) rests
-
-module _ (unlock : Unlock) (still : unlock.installed ≡ false) where
-  abbrev opened_with : List ℕ → Unlock
-  opened_with key = record unlock { opening = record unlock.opening { stage = Opened key }; installed = false }
-
-  -- the secret is a right one
-  under : (key : List ℕ) (scene : Scene) → IsSound unlock.opening.user scene.share
-      → AllHas (unlock_rest (opened_with key)).facts scene.share
-      → IsUnder scene.share unlock.opening.user unlock.opening.secret
-  under key scene sound facts = under-first unlock.opening.user scene.share sound facts.1.0.present
-      unlock.opening.secret key facts.1.0 facts.0
-
-  -- the key comes into the ring
-  adds : (key : List ℕ) (site : Option Site)
-      → UserTurns (OfUnlock (opened_with key)) site (ending_turn unlock.opening.user (Some key))
-  adds key site = λ scene sound clear rests.
-      let is = under key scene sound rests.facts in
-      record {
+  installs : (stage : UnlockStage) (key : List ℕ) (scene : Scene) → IsReady stage key scene
+      → TurnShows (seen_of tasks (OfUnlock (staged stage))) scene (adding_turn unlock.opening.user key)
+  installs stage key scene ready =
+      let user = unlock.opening.user in
+      let fixed = ready.fixed in
+      let keeps : KeepsUser scene.share (with_key scene.share ForCe key) =
+      record { known = refl; seed = refl; attempts = refl } in record {
         stands = record {
           quiet = refl;
           mine = refl;
-          given = given-first unlock.opening.user scene.share sound rests.facts.1.0.present unlock.opening.secret key
-              rests.facts.1.0 rests.facts.0;
-          may = subst (λ command. Installs command unlock.opening.user ForCe) (sym rests.serves.command) (refl, refl);
-          right = subst (λ command. IfSome (opening_secret command) (IsUnder scene.share unlock.opening.user))
-              (sym rests.serves.command) is;
-          held = refl;
-          leads = leads-to tasks (OfUnlock (opened_with key)) Done refl refl refl (record {
-            facts = (refl, (record { known = is.known; there = is.there; under = is.under }, tt));
-            known = (tt, (tt, tt));
-            serves = record { command = rests.serves.command };
+          given = ready.given;
+          may = subst (λ command. Installs command user ForCe) (sym ready.serves.command) (refl, refl);
+          right = unlock-right scene user unlock.opening.secret ready.serves.command Current fixed.under;
+          held = ap (λ rest. rest.held) ready.then;
+          leads = leads-to tasks (OfUnlock (staged stage)) Installed ready.hears refl ready.then (record {
+            facts = (
+              slots-last scene.share _ keeps Current [] fixed.slots,
+              (
+                fixed.durable,
+                (under-last scene.share _ keeps user unlock.opening.secret Current fixed.under, (refl, tt)),
+              ),
+            );
+            known = (tt, (tt, (tt, (tt, tt))));
+            serves = record { command = ready.serves.command };
             same_user = refl;
-            falls = omega arith;
+            falls = omega (arith, ready.behind);
             makes = omega arith;
             draws = omega arith;
           });
         };
         may = tt;
+        lasts = omega (arith, ready.behind);
+      }
+
+  -- behind a sync, or where every change is durable already
+  pub adds-turn : (key : List ℕ) → unlock.stage ≡ Installing key → (looks : Looks)
+      → UserTurns (OfUnlock unlock) looks (adding_turn unlock.opening.user key)
+  adds-turn key here looks = at-stage (Installing key) looks (adding_turn unlock.opening.user key) here
+      (λ scene sound finds rests. installs (Installing key) key scene (record {
+        hears = refl;
+        then = refl;
+        behind = omega arith;
+        serves = rests.serves;
+        fixed = record {
+          slots = rests.facts.0;
+          durable = rests.facts.1.0;
+          under = rests.facts.1.1.0;
+        };
+        given = rests.facts.1.1.1.0;
+      }))
+
+  pub adds-durable : (key : List ℕ) → unlock.stage ≡ Fixing key → has_ended unlock.fixing ≡ true → (looks : Looks)
+      → looks.durable ≡ true → UserTurns (OfUnlock unlock) looks (adding_turn unlock.opening.user key)
+  adds-durable key here ended looks durable = at-stage (Fixing key) looks (adding_turn unlock.opening.user key) here
+      (λ scene sound finds rests.
+      let facts = has-ended key ended scene.share rests.facts in
+      installs (Fixing key) key scene (record {
+        hears = tt;
+        then = refl;
+        behind = omega arith;
+        serves = rests.serves;
+        fixed = record { slots = facts.0; durable = finds.durable durable; under = facts.1.0 };
+        given = facts.1.1.0;
+      }))
+
+  -- with the key in the ring what is due is deleted, and then it is told so
+  is-ending : IsEnding tasks (OfUnlock (staged Ending))
+  is-ending = record { hears = refl; stays = refl; left = omega arith; held = refl }
+
+  pub ends-turn : unlock.stage ≡ Ending → (looks : Looks)
+      → UserTurns (OfUnlock unlock) looks (ending_turn looks.due false DoneReply)
+  ends-turn here looks = at-stage Ending looks (ending_turn looks.due false DoneReply) here (λ scene sound finds rests.
+      let user = unlock.opening.user in
+      let slots = rests.facts.0 in
+      ending-shows tasks (OfUnlock (staged Ending)) is-ending looks scene finds rests false DoneReply
+      (sym (ap tells_deletes rests.serves.command)) (λ none. record {
+        outcome = refl;
+        may = subst (DidWork (evidence_in user scene.share) scene.boot scene.began) (sym rests.serves.command) (
+          (refl, rests.facts.1.1.1.0),
+          (
+            (slots.known, (refl, slots.there), one-slot scene.share Current slots),
+            (refl, rests.facts.1.0),
+          ),
+        );
+        right = λ opened.
+            unlock-right scene user unlock.opening.secret rests.serves.command Current rests.facts.1.1.0;
+        gone = λ is. cc;
         lasts = omega arith;
-      }
-
-  -- or no slot is under the secret
-  abbrev none_left : Unlock
-  none_left = record unlock { opening = record unlock.opening { left = []; stage = Reading }; installed = false }
-
-  refuses : (site : Option Site) → UserTurns (OfUnlock none_left) site (ReplyNext WrongSecret)
-  refuses site = λ scene sound clear rests. record {
-    outcome = refl;
-    may = subst (GaveWrongSecret (evidence_in unlock.opening.user scene.share) scene.began)
-        (sym rests.serves.command)
-        (gave-wrong unlock.opening.user scene.share sound rests.facts.1.0.present unlock.opening.secret
-        rests.facts.1.0);
-    right = λ opened. absurd opened;
-    lasts = omega arith;
-    held = refl;
-  }
-
-  as-opened : (installed : Bool) (stage : Stage) (left : List Slot) (next : Next) (site : Option Site)
-      → unlock.installed ≡ installed → unlock.opening.stage ≡ stage → unlock.opening.left ≡ left
-      → UserTurns (OfUnlock (record unlock {
-        opening = record unlock.opening { left = left; stage = stage };
-        installed = installed;
-      })) site next
-      → UserTurns (OfUnlock unlock) site next
-  as-opened installed stage left next site is here some turns =
-      subst (λ i. UserTurns (OfUnlock (record unlock { installed = i })) site next) (sym is)
-      (subst (λ s. UserTurns (OfUnlock (record unlock {
-        opening = record unlock.opening { stage = s };
-        installed = installed;
-      })) site next) (sym here)
-      (subst (λ l. UserTurns (OfUnlock (record unlock {
-        opening = record unlock.opening { left = l; stage = stage };
-        installed = installed;
-      })) site next) (sym some) turns))
-
-  pub ends-turn : (key : Option (List ℕ)) → key_in unlock.opening.stage ≡ key → HasEnded unlock.opening
-      → (site : Option Site) → UserTurns (OfUnlock unlock) site (ending_turn unlock.opening.user key)
-  ends-turn None none ended site =
-      let nothing = none-left unlock.opening.stage unlock.opening.left ended none in
-      as-opened false Reading [] (ReplyNext WrongSecret) site still nothing.0 nothing.1 (refuses site)
-  ends-turn (Some key) is ended site =
-      as-opened false (Opened key) unlock.opening.left (ending_turn unlock.opening.user (Some key)) site still
-      (some-key unlock.opening.stage key is) refl (adds key site)
-
--- the key is in the ring when it is told so
-pub done-turn : (unlock : Unlock) → unlock.installed ≡ true → (site : Option Site)
-    → UserTurns (OfUnlock unlock) site (ReplyNext DoneReply)
-done-turn unlock installed site =
-    subst (λ i. UserTurns (OfUnlock (record unlock { installed = i })) site (ReplyNext DoneReply)) (sym installed)
-    (λ scene sound clear rests. record {
-      outcome = refl;
-      may = subst (DidWork (evidence_in unlock.opening.user scene.share) scene.boot scene.began)
-          (sym rests.serves.command) (refl, rests.facts.0);
-      right = λ opened. subst (λ command. IfSome (opening_secret command) (IsUnder scene.share unlock.opening.user))
-          (sym rests.serves.command) rests.facts.1.0;
-      lasts = omega arith;
-      held = refl;
-    })
-
--- it asks for the jobs of the task that opens the key, and for no further one once it heard the output
-module _ (unlock : Unlock) where
-  pub opens-asks : (doing : Doing) → OpenAsks unlock.opening (Some doing)
-      → Asks (seen_of tasks (OfUnlock unlock)) (opening_turn unlock.opening.user doing)
-  opens-asks (Read slot) asks = tt
-  opens-asks (Work job) asks =
-      let none = asked-key unlock.opening.stage _ asks.fewer in record {
-        whole = asks.whole;
-        hears = subst (λ key. hears_with key unlock (Output (output_of job.input))) (sym none) asks.hears;
-        fewer = subst (λ key. asks_of (after_with key unlock (Output (output_of job.input))) < asks_of unlock)
-            (sym none) asks.fewer;
-      }
-  opens-asks (Decrypt blob app_id text) asks = tt
-
-  pub ends-asks : (key : Option (List ℕ))
-      → Asks (seen_of tasks (OfUnlock unlock)) (ending_turn unlock.opening.user key)
-  ends-asks None = tt
-  ends-asks (Some key) = tt
-
-  -- which have its number
-  pub opens-jobs : unlock.installed ≡ false → (doing : Doing) → OpenTurns unlock.opening (Some doing)
-      → (site : Option Site) → UserJobs (OfUnlock unlock) site (opening_turn unlock.opening.user doing)
-  opens-jobs still (Read slot) turns site = λ scene sound clear rests. tt
-  opens-jobs still (Work job) turns site = λ scene sound clear rests.
-      (turns.1 scene.share sound (has-opening unlock still scene rests.facts).1).number
-  opens-jobs still (Decrypt blob app_id text) turns site = λ scene sound clear rests. tt
-
-  pub ends-jobs : (key : Option (List ℕ)) (site : Option Site)
-      → UserJobs (OfUnlock unlock) site (ending_turn unlock.opening.user key)
-  ends-jobs None site = λ scene sound clear rests. tt
-  ends-jobs (Some key) site = λ scene sound clear rests. tt
+        held = refl;
+      }))

@@ -13,30 +13,22 @@ use Rattle.keystore_model.specs.declared.entry.Tag.{Tag}
 use Rattle.keystore_model.specs.Store.{entry_of}
 use Rattle.keystore_model.proofs.Stores.{entry-push_other}
 use Rattle.step_core.specs.declared.jobs.Job.{Job}
-use Rattle.step_core.specs.declared.jobs.JobOutput.{JobOutput}
-use Rattle.step_core.specs.declared.jobs.JobOutput.TheVariants.{AppId as IsAppId, Sealed as IsSealed, Opened}
 use Rattle.step_core.specs.Jobs.{output_of}
 use Rattle.user_world.specs.declared.changes.LocalChange.{LocalChange}
-use Rattle.user_world.specs.OwnWorlds.{own_view}
-use Rattle.user_world.specs.Turns.{with_note}
-use Rattle.key_directory.specs.Vaults.{Attempts, Extends, sealed}
+use Rattle.user_world.specs.OwnWorlds.{own_view, own_record}
+use Rattle.key_directory.specs.Vaults.{sealed}
 use Rattle.task_turns.specs.declared.calls.Answer.{Answer}
 use Rattle.task_turns.specs.declared.calls.Answer.TheVariants.{Done, Blob as IsBlob, Sealed, Output}
 use Rattle.task_turns.specs.declared.calls.Call.TheVariants.{Op as OpCall, Sync as SyncCall}
-use Rattle.task_turns.specs.Shares.{Share, ShareFact, AllHas, LaterShare, IsHeld, AreHeld}
-use Rattle.task_turns.specs.Shares.{KeyFor, SealedFor}
+use Rattle.task_turns.specs.Shares.{Share, ShareFact, AllHas, LaterShare, IsHeld, AreHeld, KeyFor, SealedFor}
 use Rattle.task_turns.specs.Turns.{seen_of, Rest, Tasks, Scene, Cost, no_cost, operated, synced, with_entry, Leads}
 use Rattle.task_turns.specs.Turns.{CallShows, GenerateShows, EncryptShows, WorkShows, TurnShows}
 use Rattle.task_turns.proofs.Lasting.{facts-last}
-use Rattle.store_task.specs.declared.stages.Stage.{Stage}
-use Rattle.store_task.specs.declared.stages.Stage.TheVariants.{First, Tied, Generated, Storing}
-use Rattle.store_task.specs.declared.stages.Progress.{Progress}
-use Rattle.store_task.specs.declared.stages.Progress.TheVariants.{Absent, Settled, Stored}
+use Rattle.store_task.specs.declared.stages.Progress.TheVariants.{Stored}
 use Rattle.store_task.specs.declared.turns.Doing.{Doing}
 use Rattle.store_task.specs.declared.turns.Doing.TheVariants.{Work, Generate, Encrypt, Tree, Sync as SyncDoing}
-use Rattle.store_task.specs.Task.{Task, IsAnswer, AnswersStage, stage_after, after as store_after, facts_of}
-use Rattle.store_task.specs.Task.{held_at, held_of, left_of, makes_in, makes_of, draws_at, draws_of, progress_of}
-use Rattle.store_task.specs.Task.{temp_at, temp_of}
+use Rattle.store_task.specs.Task.{Task, IsAnswer, after as store_after, facts_of, held_of, left_of, makes_in, makes_of}
+use Rattle.store_task.specs.Task.{draws_of, progress_of, temp_of}
 use Rattle.store_task.specs.Turns.{Leads as StoreLeads, WorkShows as StoreWork, GenerateShows as StoreGenerate}
 use Rattle.store_task.specs.Turns.{EncryptShows as StoreEncrypt, TreeShows, SyncShows as StoreSync, StaysAside}
 use Rattle.store_task.specs.Turns.{PutsInPlace, DoingShows}
@@ -44,7 +36,11 @@ use Rattle.store_task.proofs.HeldBlobs.{blobs-held}
 use Rattle.store_task.proofs.Places.{temp-written}
 use Rattle.user_tasks.specs.Stores.{Frame, rest_in, whole_facts, op_turn, turn_of}
 use Rattle.blob_custody.proofs.Steps.{lets-none}
-use Rattle.user_tasks.proofs.AsideOps.{IsAside, aside-brings, aside-turn, aside-step, aside-gains, whole-aside}
+use Rattle.user_tasks.proofs.AsideOps.{IsAside, aside-brings, aside-turn, aside-drops, aside-step, aside-gains}
+use Rattle.user_tasks.proofs.AsideOps.{whole-aside}
+use Rattle.user_tasks.proofs.Leading.{none-more, leads-to}
+use Rattle.user_tasks.proofs.Preparing.{Prepares, after-output, after-blob, after-sealed, done-held, done-draws}
+use Rattle.user_tasks.proofs.Preparing.{absent-unsettled, absent-goes_on, settled-goes_on}
 use Rattle.user_tasks.proofs.Whole.{whole-held, whole-prepared, whole-synced}
 
 -- facts of two lists
@@ -79,94 +75,6 @@ held-both : (held : List Blob) (facts more : List ShareFact) → AreHeld held fa
 held-both held [] more are also = also
 held-both held (fact ∷ facts) more are also = (are.0, held-both held facts more are.1 also)
 
--- an answer before the directory is begun: the blobs that are held then, and the entries that it made
-record Prepares (discard : List ℕ) (stage then : Stage) (gains : List Blob) (draws : ℕ) : Type 0 where
-  absent : progress_of stage ≡ Absent
-  nothing : temp_at discard stage ≡ None
-  then_absent : progress_of then ≡ Absent
-  then_nothing : temp_at discard then ≡ None
-  held : held_at then ≡ held_at stage ++ gains
-  spent : draws_at then + draws ≤ draws_at stage
-
-module _ (discard secret : List ℕ) where
-  after-output : (stage : Stage) (output : JobOutput) → AnswersStage secret stage (Output output)
-      → Prepares discard stage (stage_after stage (Output output)) [] 0
-  after-output First (IsAppId app_id) answers = record {
-    absent = refl;
-    nothing = refl;
-    then_absent = refl;
-    then_nothing = refl;
-    held = refl;
-    spent = omega arith;
-  }
-  after-output First (IsSealed text) answers = record {
-    absent = refl;
-    nothing = refl;
-    then_absent = refl;
-    then_nothing = refl;
-    held = refl;
-    spent = omega arith;
-  }
-  after-output First (Opened key) answers = absurd answers
-  after-output (Tied app_id) output answers = absurd answers
-  after-output (Generated app_id blob) output answers = absurd answers
-  after-output (Storing blob text progress) output answers = absurd answers
-
-  after-blob : (stage : Stage) (blob : Blob) → AnswersStage secret stage (IsBlob blob)
-      → Prepares discard stage (stage_after stage (IsBlob blob)) (blob ∷ []) 1
-  after-blob First blob answers = absurd answers
-  after-blob (Tied app_id) blob answers = record {
-    absent = refl;
-    nothing = refl;
-    then_absent = refl;
-    then_nothing = refl;
-    held = refl;
-    spent = omega arith;
-  }
-  after-blob (Generated app_id other) blob answers = absurd answers
-  after-blob (Storing other text progress) blob answers = absurd answers
-
-  after-sealed : (stage : Stage) (text : List ℕ) → AnswersStage secret stage (Sealed text)
-      → Prepares discard stage (stage_after stage (Sealed text)) [] 0
-  after-sealed First text answers = absurd answers
-  after-sealed (Tied app_id) text answers = absurd answers
-  after-sealed (Generated app_id blob) text answers = record {
-    absent = refl;
-    nothing = refl;
-    then_absent = refl;
-    then_nothing = refl;
-    held = refl;
-    spent = omega arith;
-  }
-  after-sealed (Storing blob other progress) text answers = absurd answers
-
-  -- an operation or a sync makes no entry
-  done-held : (stage : Stage) → AnswersStage secret stage Done → held_at (stage_after stage Done) ≡ held_at stage
-  done-held First answers = absurd answers
-  done-held (Tied app_id) answers = absurd answers
-  done-held (Generated app_id blob) answers = absurd answers
-  done-held (Storing blob text progress) answers = refl
-
-  done-draws : (stage : Stage) → AnswersStage secret stage Done → draws_at (stage_after stage Done) ≡ draws_at stage
-  done-draws First answers = absurd answers
-  done-draws (Tied app_id) answers = absurd answers
-  done-draws (Generated app_id blob) answers = absurd answers
-  done-draws (Storing blob text progress) answers = refl
-
--- the progress is another one where it is known
-absent-unsettled : (progress : Progress) → progress ≡ Absent → progress ≢ Settled
-absent-unsettled progress is e = let same : Absent ≡ Settled = sym is ∙ e in cc
-
-absent-goes_on : (progress : Progress) → progress ≡ Absent → progress ≢ Stored
-absent-goes_on progress is e = let same : Absent ≡ Stored = sym is ∙ e in cc
-
-settled-goes_on : (progress : Progress) → progress ≡ Settled → progress ≢ Stored
-settled-goes_on progress is e = let same : Settled ≡ Stored = sym is ∙ e in cc
-
--- as much was tried
-none-more : (attempts : Attempts) → Extends attempts attempts
-none-more attempts = record { additions = λ added has. has; secrets = λ secret has. has }
-
 -- a sync and a further entry leave a share that is later
 later-synced : (held : List Blob) (share : Share) → LaterShare held share (synced share)
 later-synced held share =
@@ -197,35 +105,6 @@ later-entered held share blob tag app_id key none = record {
     stays other entry live = entry-push_other share.vault.entries _ other
         (λ same. none-some entry (sym none ∙ subst (λ b. entry_of share.vault.entries b ≡ Some entry) same live))
         ∙ live
-
--- what one turn leads to, by where the task rests before it and after it
-pub record LeadsTo (scene : Scene) (rest then : Rest) (note : Option LocalChange) (cost : Cost) (share : Share) :
-    Type 0 where
-  pub facts : AllHas then.facts share
-  pub known : AreHeld then.held then.facts
-  pub serves : then.serves scene.boot (with_note rest.user scene.began note)
-  pub same_user : then.user ≡ rest.user
-  pub falls : then.left + cost.makes < rest.left + cost.takes
-  pub makes : then.makes + cost.makes ≤ rest.makes
-  pub draws : then.draws + cost.draws ≤ rest.draws
-
-pub leads-to : {T : Type 0} (tasks : Tasks T) (task : T) (answer : Answer) {scene : Scene} {rest then : Rest}
-    {note : Option LocalChange} {cost : Cost} {share : Share} → tasks.hears task answer
-    → tasks.rest_of task ≡ rest → tasks.rest_of (tasks.after task answer) ≡ then
-    → LeadsTo scene rest then note cost share
-    → Leads (seen_of tasks task) answer scene note cost share
-leads-to tasks task answer {scene} {rest} {then} {note} {cost} {share} hears is next to =
-    let led = subst (λ r. LeadsTo scene r (tasks.rest_of (tasks.after task answer)) note cost share) (sym is)
-    (subst (λ r. LeadsTo scene rest r note cost share) (sym next) to) in record {
-      hears = hears;
-      facts = led.facts;
-      known = led.known;
-      serves = led.serves;
-      same_user = led.same_user;
-      falls = led.falls;
-      makes = led.makes;
-      draws = led.draws;
-    }
 
 -- the task rests where the frame says, and so after each answer to its store task that puts no directory in place
 pub record IsFramed {T : Type 0} (tasks : Tasks T) (task : T) (frame : Frame) (store : Task) : Type 1 where
@@ -280,6 +159,7 @@ module _ {T : Type 0} (tasks : Tasks T) (task : T) (frame : Frame) (store : Task
     base : AllHas frame.base share
     whole : AllHas (whole_with (store_after store answer)) share
     makes : makes_of (store_after store answer) + cost.makes ≤ makes_of store
+    lists : cost.lists ≡ 0
     draws : draws_of (store_after store answer) + cost.draws ≤ draws_of store
 
   goes-leads : (answer : Answer) (cost : Cost) (share : Share) → GoesOn answer cost share
@@ -293,7 +173,7 @@ module _ {T : Type 0} (tasks : Tasks T) (task : T) (frame : Frame) (store : Task
         known = known-in (store_after store answer);
         serves = serves;
         same_user = refl;
-        falls = omega (arith, goes.leads.falls, goes.makes);
+        falls = omega (arith, goes.leads.falls, goes.makes, goes.lists);
         makes = omega (arith, goes.makes);
         draws = omega (arith, goes.draws);
       })
@@ -346,6 +226,7 @@ module _ {T : Type 0} (tasks : Tasks T) (task : T) (frame : Frame) (store : Task
           base = base-has;
           whole = prepared-whole answer [] 0 prepares scene.share whole-has;
           makes = prepared-makes answer [] 0 prepares;
+          lists = refl;
           draws = prepares.spent;
         });
       }
@@ -367,6 +248,7 @@ module _ {T : Type 0} (tasks : Tasks T) (task : T) (frame : Frame) (store : Task
             whole = prepared-whole (IsBlob blob) (blob ∷ []) 1 prepares _
                 (whole-later _ (later-entered frame.before scene.share blob tag app_id key none));
             makes = prepared-makes (IsBlob blob) (blob ∷ []) 1 prepares;
+            lists = refl;
             draws = prepares.spent;
           });
         };
@@ -391,6 +273,7 @@ module _ {T : Type 0} (tasks : Tasks T) (task : T) (frame : Frame) (store : Task
           base = base-has;
           whole = prepared-whole (Sealed _) [] 0 prepares scene.share whole-has;
           makes = prepared-makes (Sealed _) [] 0 prepares;
+          lists = refl;
           draws = prepares.spent;
         });
       }
@@ -417,12 +300,13 @@ module _ {T : Type 0} (tasks : Tasks T) (task : T) (frame : Frame) (store : Task
                 aside.unsynced frame.current
                 (temp-written (operated scene.share op None) (store_after store Done) leads.facts) whole-has;
             makes = shows.makes;
+            lists = aside-drops op aside.apart (own_record scene.share.own);
             draws = let kept : draws_of (store_after store Done) ≡ draws_of store =
                 done-draws store.spec.discard store.spec.secret store.stage leads.answers in omega (arith, kept);
           });
         };
         may = tt;
-        lasts = lasts unended;
+        lasts = omega (arith, lasts unended);
       }
 
   sync-shows : left_of store ≢ 0 → StoreSync store scene.share → CallShows (seen_of tasks task) scene SyncCall None
@@ -441,12 +325,13 @@ module _ {T : Type 0} (tasks : Tasks T) (task : T) (frame : Frame) (store : Task
                 (temp-written (synced scene.share) (store_after store Done) leads.facts) whole-has;
             makes = let none : makes_of (store_after store Done) ≡ 0 = ap makes_in shows.settles in
                 omega (arith, none);
+            lists = refl;
             draws = let kept : draws_of (store_after store Done) ≡ draws_of store =
                 done-draws store.spec.discard store.spec.secret store.stage leads.answers in omega (arith, kept);
           });
         };
         may = tt;
-        lasts = lasts unended;
+        lasts = omega (arith, lasts unended);
       }
 
   -- each turn, but for what puts the directory in place
@@ -459,12 +344,12 @@ module _ {T : Type 0} (tasks : Tasks T) (task : T) (frame : Frame) (store : Task
   framed-shows (Generate tag app_id) named change unended shows placed = record {
     stands = generate-shows tag app_id shows;
     may = tt;
-    lasts = lasts unended;
+    lasts = omega (arith, lasts unended);
   }
   framed-shows (Encrypt blob app_id nonce key) named change unended shows placed = record {
     stands = (refl, encrypt-shows blob app_id nonce key shows);
     may = tt;
-    lasts = lasts unended;
+    lasts = omega (arith, lasts unended);
   }
   framed-shows (Tree op) named change unended shows placed = elim shows.owned [
     | inl aside ↦ subst (TurnShows (seen_of tasks task) scene)

@@ -16,7 +16,7 @@ use Rattle.journal_model.specs.Users.{Record, new_secrets}
 use Rattle.user_world.specs.declared.changes.LocalChange.TheVariants.{Born}
 use Rattle.user_world.specs.Facts.{Knows, Logged, Durable}
 use Rattle.task_turns.specs.declared.calls.Answer.{Answer}
-use Rattle.task_turns.specs.declared.calls.Answer.TheVariants.{Done}
+use Rattle.task_turns.specs.declared.calls.Answer.TheVariants.{Done, Installed}
 use Rattle.task_turns.specs.Shares.{ShareFact, Own, Same, Given, HasKey}
 use Rattle.task_turns.specs.Turns.{Rest, Tasks}
 use Rattle.store_task.specs.declared.turns.StoreSpec.{StoreSpec}
@@ -215,8 +215,8 @@ hears_at Clearing create answer = hears_clearing create.ce answer
 hears_at StoringCe create answer = IsAnswer create.ce answer
 hears_at StoringDe create answer = IsAnswer create.de answer
 hears_at Created create answer = answer ≡ Done
-hears_at InstallingDe create answer = answer ≡ Done
-hears_at InstallingCe create answer = answer ≡ Done
+hears_at InstallingDe create answer = answer ≡ Installed
+hears_at InstallingCe create answer = answer ≡ Installed
 hears_at Ended create answer = ⊥
 
 abbrev pub hears : Creating → Answer → Type 0

@@ -1,9 +1,12 @@
-pub mod Clearing
 pub mod Create
+pub mod Destroy
+pub mod Fixate
 pub mod Lock
-pub mod Unlock
+pub mod Looks
 pub mod Made
 pub mod Protect
 pub mod Stores
 pub mod Tasks
+pub mod Turns
+pub mod Unlock
 pub mod WrongPlans

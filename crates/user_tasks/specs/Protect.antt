@@ -23,7 +23,7 @@ use Rattle.store_task.specs.declared.stages.Stage.TheVariants.{First}
 use Rattle.store_task.specs.Task.{Task, IsTask, IsAnswer, after as store_after, with_key, progress_of, makes_of}
 use Rattle.store_task.specs.Task.{draws_of}
 use Rattle.store_task.specs.Task.{asks_of as store_asks}
-use Rattle.open_task.specs.Task.{Opening, IsAnswer as OpenAnswer, key_in, after as open_after}
+use Rattle.open_task.specs.Task.{Opening, IsAnswer as OpenAnswer, key_in, slot_at_hand, after as open_after}
 use Rattle.open_task.specs.Task.{facts_of as open_facts, left_of as open_left, asks_of as open_asks}
 use Rattle.user_tasks.specs.declared.protects.ProtectStage.{ProtectStage}
 use Rattle.user_tasks.specs.declared.protects.ProtectStage.TheVariants.{Opening as IsOpening, Clearing, Storing, Added}
@@ -88,7 +88,8 @@ begun_facts protect = NextSlot (slot_of protect)
 
 -- and then on the key that was opened
 abbrev pub opened_facts : Protecting → List ShareFact
-opened_facts protect = Opens protect.opening.secret protect.store.spec.key ∷ begun_facts protect
+opened_facts protect =
+    Opens protect.opening.secret (slot_at_hand protect.opening.left) protect.store.spec.key ∷ begun_facts protect
 
 -- while the directory is stored, a sync and the reply are still to come
 abbrev pub store_frame : Protecting → Frame
@@ -180,7 +181,7 @@ hears_at IsOpening protect answer = OpenAnswer protect.opening answer
 hears_at Clearing protect answer = hears_clearing protect.store answer
 hears_at Storing protect answer = IsAnswer protect.store answer
 hears_at Added protect answer = answer ≡ Done
-hears_at Ended protect answer = ⊥
+hears_at Ended protect answer = answer ≡ Done
 
 abbrev pub hears : Protecting → Answer → Type 0
 hears protect answer = hears_at protect.stage protect answer

@@ -14,7 +14,6 @@ use Rattle.store_task.specs.declared.stages.Progress.TheVariants.{Settled}
 use Rattle.tree_model.specs.declared.sites.LocalOp.{LocalOp}
 use Rattle.tree_model.specs.declared.sites.LocalOp.TheVariants.{RenameDir}
 use Rattle.user_world.specs.declared.changes.LocalChange.{LocalChange}
-use Rattle.task_turns.specs.declared.calls.Call.{Call}
 use Rattle.task_turns.specs.declared.calls.Call.TheVariants.{Op as OpCall, Sync as SyncCall}
 use Rattle.task_turns.specs.declared.calls.Call.TheVariants.{Generate as GenerateCall, Encrypt as EncryptCall}
 use Rattle.task_turns.specs.declared.next.Next.{Next}
@@ -23,6 +22,7 @@ use Rattle.store_task.specs.declared.turns.Doing.{Doing}
 use Rattle.store_task.specs.declared.turns.Doing.TheVariants.{Work, Generate, Encrypt, Tree, Sync}
 use Rattle.store_task.specs.Task.{Task, facts_of, held_by, held_of, left_of, makes_of, draws_of, progress_of, temp_of}
 use Rattle.store_task.specs.Turns.{StoreTurns, StoreAsks}
+use Rattle.user_tasks.specs.Turns.{quiet_turn}
 
 -- a part with no device directory, and no credential directory but the current one
 abbrev pub part : Option Files → Option Files → Part
@@ -73,9 +73,6 @@ rest_in frame task = record {
   makes = makes_of task + frame.makes;
   draws = draws_of task + frame.draws;
 }
-
-abbrev pub quiet_turn : Call → Next
-quiet_turn call = CallNext call None
 
 -- a rename brings what the directory names, and makes the change
 abbrev pub op_turn : ℕ → LocalOp → Option Blob → Option LocalChange → Next

@@ -1,9 +1,10 @@
 -- Plans of a create that are wrong, and that no create can show: each is refuted in a scene in which the create rests.
-use Rattle.std.specs.Prelude.{◌≡◌, ◌≢◌, ℕ, List, [], length, Some, None}
+use Rattle.std.specs.Prelude.{◌≡◌, ◌≢◌, ℕ, false, List, [], length, Option, Some, None}
 use Rattle.tree_model.specs.declared.blobs.Blob.{Blob}
 use Rattle.tree_model.specs.declared.places.Class.{Class}
 use Rattle.tree_model.specs.declared.places.Class.TheVariants.{De as ForDe, Ce as ForCe}
 use Rattle.tree_model.specs.declared.places.Slot.TheVariants.{Current}
+use Rattle.tree_model.specs.declared.sites.Site.{Site}
 use Rattle.tree_model.specs.declared.sites.Site.TheVariants.{De, Ce, Temp}
 use Rattle.tree_model.specs.declared.sites.LocalOp.TheVariants.{RenameDir}
 use Rattle.seal_model.specs.Sealed.{sealed_text}
@@ -22,6 +23,7 @@ use Rattle.user_tasks.specs.declared.creates.Stage.{Stage}
 use Rattle.user_tasks.specs.declared.creates.Stage.TheVariants.{StoringDe, Created, InstallingDe}
 use Rattle.user_tasks.specs.Create.{Creating}
 use Rattle.user_tasks.specs.Made.{target_of}
+use Rattle.user_tasks.specs.declared.looks.Looks.{Looks}
 use Rattle.user_tasks.specs.Tasks.{UserTurns}
 use Rattle.user_tasks.specs.declared.tasks.UserTask.TheVariants.{Create as OfCreate}
 
@@ -72,45 +74,51 @@ create_at plan progress stage = record {
   stage = stage;
 }
 
+-- a turn that is told that this is in the way, and no more
+abbrev pub finding : Option Site → Looks
+finding in_the_way = record { in_the_way = in_the_way; durable = false; due = None }
+
 -- the reply comes before the last sync
 abbrev pub RepliesBeforeSync : Type 0
 RepliesBeforeSync =
-    (plan : Plan) → UserTurns (OfCreate (create_at plan Stored Created)) (Some (Ce Current)) (ReplyNext Done) → ⊥
+    (plan : Plan) → UserTurns (OfCreate (create_at plan Stored Created)) (finding (Some (Ce Current))) (ReplyNext Done)
+    → ⊥
 
 -- the device key's directory is left out
 abbrev pub LeavesOutDevice : Type 0
 LeavesOutDevice =
-    (plan : Plan) → UserTurns (OfCreate (create_at plan Settled StoringDe)) (Some Temp) (ReplyNext Done) → ⊥
+    (plan : Plan) → UserTurns (OfCreate (create_at plan Settled StoringDe)) (finding (Some Temp)) (ReplyNext Done) → ⊥
 
 -- the rename that makes the user is not noted as a change
 abbrev pub HidesChange : Type 0
 HidesChange = (plan : Plan)
-    → UserTurns (OfCreate (create_at plan Settled StoringDe)) (Some Temp)
+    → UserTurns (OfCreate (create_at plan Settled StoringDe)) (finding (Some Temp))
     (CallNext (OpCall plan.user (RenameDir Temp De) (Some plan.de_blob)) None)
     → ⊥
 
 -- it doesn't tell the blob that the directory names
 abbrev pub HidesBlob : Type 0
 HidesBlob = (plan : Plan)
-    → UserTurns (OfCreate (create_at plan Settled StoringDe)) (Some Temp)
+    → UserTurns (OfCreate (create_at plan Settled StoringDe)) (finding (Some Temp))
     (CallNext (OpCall plan.user (RenameDir Temp De) None) (Some (Born plan.birth)))
     → ⊥
 
 -- it is on another user's places
 abbrev pub TouchesOther : Type 0
 TouchesOther = (plan : Plan) (other : ℕ) → other ≢ plan.user
-    → UserTurns (OfCreate (create_at plan Settled StoringDe)) (Some Temp)
+    → UserTurns (OfCreate (create_at plan Settled StoringDe)) (finding (Some Temp))
     (CallNext (OpCall other (RenameDir Temp De) (Some plan.de_blob)) (Some (Born plan.birth)))
     → ⊥
 
 -- the reply comes before the keys are installed
 abbrev pub RepliesBeforeKeys : Type 0
 RepliesBeforeKeys =
-    (plan : Plan) → UserTurns (OfCreate (create_at plan Stored InstallingDe)) (Some (Ce Current)) (ReplyNext Done) → ⊥
+    (plan : Plan) → UserTurns (OfCreate (create_at plan Stored InstallingDe)) (finding (Some (Ce Current)))
+    (ReplyNext Done) → ⊥
 
 -- it installs a key that the user wasn't given
 abbrev pub InstallsOther : Type 0
 InstallsOther = (plan : Plan) (key : List ℕ) → key ≢ key_of plan.seed ForDe plan.user plan.birth
-    → UserTurns (OfCreate (create_at plan Stored InstallingDe)) (Some (Ce Current))
+    → UserTurns (OfCreate (create_at plan Stored InstallingDe)) (finding (Some (Ce Current)))
     (CallNext (Add plan.user ForDe key) None)
     → ⊥

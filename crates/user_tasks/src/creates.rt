@@ -7,17 +7,19 @@ ghost use Rattle.store_task.specs.declared.stages.Progress.TheVariants.{Stored};
 ghost use Rattle.store_task.specs.Task.{IsAnswer, after as store_after, progress_of};
 ghost use Rattle.user_tasks.specs.Create.{after, hears, all_held, held_in, with_ce, with_de, after_ce, after_de};
 ghost use Rattle.user_tasks.specs.Made.{IsFirst};
-ghost use Rattle.user_tasks.specs.Stores.{quiet_turn};
 ghost use Rattle.user_tasks.specs.Tasks.{UserTurns, UserJobs, tasks};
+ghost use Rattle.user_tasks.specs.Turns.{quiet_turn};
 
+use crate::looks::Looks;
 use crate::made::made_spec;
-use crate::stores::{quiet, store_turn};
+use crate::stores::store_turn;
+use crate::turns::{quiet, removing};
 use journal_model::{Birth, Reply};
 use std::alloc::Global;
 use std::marker::Model;
 use store_task::{Progress, StoreTask};
 use task_turns::{Answer, Call, Next};
-use tree_model::{Blob, Class, LocalOp, NoMemory, Site};
+use tree_model::{Blob, Class, NoMemory};
 use user_world::LocalChange;
 
 /// Where a create stands.
@@ -102,19 +104,15 @@ impl Create {
         self.user
     }
 
-    /// The next turn, where `in_the_way` is the first of the user's sites that has to be cleared.
-    pub fn next(&self, alloc: Global, in_the_way: Option<Site>) -> Result<Next, NoMemory>
-        ensures turn { IfOk result (UserTurns (OfCreate self.now) in_the_way) }
+    /// The next turn.
+    pub fn next(&self, alloc: Global, looks: Looks) -> Result<Next, NoMemory>
+        ensures turn { IfOk result (UserTurns (OfCreate self.now) looks) }
         ensures asks { IfOk result (Asks (seen_of tasks (OfCreate self.now))) }
-        ensures jobs { IfOk result (UserJobs (OfCreate self.now) in_the_way) }
+        ensures jobs { IfOk result (UserJobs (OfCreate self.now) looks) }
     {
         match self.stage {
-            Stage::Clearing => match in_the_way {
-                Some(site) => Ok(quiet(Call::Op {
-                    user: self.user,
-                    op: LocalOp::RemoveDir(site),
-                    names: None,
-                })),
+            Stage::Clearing => match looks.in_the_way {
+                Some(site) => Ok(removing(self.user, site)),
                 None => store_turn(alloc, self.user, &self.ce, None),
             },
             Stage::StoringCe => store_turn(alloc, self.user, &self.ce, None),

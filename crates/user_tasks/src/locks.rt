@@ -1,11 +1,11 @@
-ghost use Rattle.std.specs.Prelude.{◌≡◌, Option};
-ghost use Rattle.tree_model.specs.declared.sites.Site.{Site};
+ghost use Rattle.std.specs.Prelude.{◌≡◌};
 ghost use Rattle.task_turns.specs.Turns.{Asks, seen_of};
+ghost use Rattle.user_tasks.specs.declared.looks.Looks.{Looks};
 ghost use Rattle.user_tasks.specs.declared.tasks.UserTask.TheVariants.{Lock as OfLock};
 ghost use Rattle.user_tasks.specs.Lock.{first_lock, after};
 ghost use Rattle.user_tasks.specs.Tasks.{UserTurns, tasks};
 
-use crate::stores::quiet;
+use crate::turns::quiet;
 use journal_model::Reply;
 use task_turns::{Call, Next};
 use tree_model::Class;
@@ -37,9 +37,9 @@ impl Lock {
         }
     }
 
-    /// The next turn, whatever is in the way of a command that stores a directory.
+    /// The next turn, whatever it would be told.
     pub fn next(self) -> Next
-        ensures turn { (site : Option Site) → UserTurns (OfLock self) site result }
+        ensures turn { (looks : Looks) → UserTurns (OfLock self) looks result }
         ensures asks { Asks (seen_of tasks (OfLock self)) result }
     {
         match self.stage {

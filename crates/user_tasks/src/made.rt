@@ -28,8 +28,8 @@ pub fn made_spec(
     })
 }
 
-/// What is stored of a user's credential key in a further slot under a fresh secret, but for the key, which is still to
-/// be opened.
+/// What is stored of a user's credential key in a further slot under a fresh secret, but for the key, which is still
+/// to be opened.
 pub fn further_spec(
     alloc: Global,
     boot_seed: &[u8; 32],

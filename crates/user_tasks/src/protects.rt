@@ -12,16 +12,17 @@ ghost use Rattle.user_tasks.specs.declared.protects.ProtectStage.TheVariants.{Op
 ghost use Rattle.user_tasks.specs.Stores.{IsStoreTurn};
 ghost use Rattle.user_tasks.specs.Tasks.{UserTurns, UserJobs, tasks};
 
+use crate::looks::Looks;
 use crate::made::further_spec;
-use crate::stores::{quiet, store_turn};
-use crate::unlocks::opening_turn;
+use crate::stores::store_turn;
+use crate::turns::{ending, opening, quiet, removing};
 use journal_model::{Birth, Reply, Secret};
 use open_task::OpenTask;
 use std::alloc::Global;
 use std::marker::Model;
 use store_task::{Progress, StoreTask};
 use task_turns::{Answer, Call, Next};
-use tree_model::{Blob, LocalOp, NoMemory, Place, Site, Slot};
+use tree_model::{Blob, NoMemory, Place, Site, Slot};
 use user_world::LocalChange;
 
 /// Where a protect stands.
@@ -39,7 +40,8 @@ pub enum ProtectStage {
     Ended,
 }
 
-/// A protect on its way: a user's credential key is opened with one secret, and stored in a further slot under another.
+/// A protect on its way: a user's credential key is opened with one secret, and stored in a further slot under
+/// another.
 #[derive(Drop)]
 pub struct Protect {
     made: Birth,
@@ -73,8 +75,8 @@ impl Model for Protect {
 }
 
 impl Protect {
-    /// The user's protect as it begins, with the task that opens the key, the slot that it is stored in under the fresh
-    /// secret, and the bytes that are made for it from the boot's seed.
+    /// The user's protect as it begins, with the task that opens the key, the slot that it is stored in under the
+    /// fresh secret, and the bytes that are made for it from the boot's seed.
     pub fn first(
         alloc: Global,
         opening: OpenTask,
@@ -105,28 +107,24 @@ impl Protect {
         self.opening.user()
     }
 
-    /// The next turn, where `in_the_way` is the first of the user's sites that is in the way of a new directory.
-    pub fn next(&self, alloc: Global, in_the_way: Option<Site>) -> Result<Next, NoMemory>
-        ensures turn { IfOk result (UserTurns (OfProtect self.now) in_the_way) }
+    /// The next turn.
+    pub fn next(&self, alloc: Global, looks: Looks) -> Result<Next, NoMemory>
+        ensures turn { IfOk result (UserTurns (OfProtect self.now) looks) }
         ensures asks { IfOk result (Asks (seen_of tasks (OfProtect self.now))) }
-        ensures jobs { IfOk result (UserJobs (OfProtect self.now) in_the_way) }
+        ensures jobs { IfOk result (UserJobs (OfProtect self.now) looks) }
     {
         match self.stage {
             ProtectStage::Opening => match self.opening.next(alloc)? {
-                Some(doing) => Ok(opening_turn(self.user(), doing)),
+                Some(doing) => Ok(opening(self.user(), doing)),
                 None => Ok(Next::Reply(Reply::WrongSecret)),
             },
-            ProtectStage::Clearing => match in_the_way {
-                Some(Site::Temp) => Ok(quiet(Call::Op {
-                    user: self.user(),
-                    op: LocalOp::RemoveDir(Site::Temp),
-                    names: None,
-                })),
+            ProtectStage::Clearing => match looks.in_the_way {
+                Some(Site::Temp) => Ok(removing(self.user(), Site::Temp)),
                 _ => self.store_turn(alloc),
             },
             ProtectStage::Storing => self.store_turn(alloc),
             ProtectStage::Added => Ok(quiet(Call::Sync)),
-            ProtectStage::Ended => Ok(Next::Reply(Reply::Done)),
+            ProtectStage::Ended => Ok(ending(looks.due, false, Reply::Done)),
         }
     }
 

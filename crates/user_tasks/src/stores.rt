@@ -1,8 +1,9 @@
 ghost use Rattle.std.specs.Prelude.{◌≡◌, ◌≢◌, IfOk};
 ghost use Rattle.store_task.specs.declared.stages.Progress.TheVariants.{Stored};
 ghost use Rattle.store_task.specs.Task.{progress_of};
-ghost use Rattle.user_tasks.specs.Stores.{IsStoreTurn, quiet_turn, op_turn, turn_of};
+ghost use Rattle.user_tasks.specs.Stores.{IsStoreTurn, op_turn, turn_of};
 
+use crate::turns::quiet;
 use std::alloc::Global;
 use store_task::{Doing, StoreTask};
 use task_turns::{Call, Next};
@@ -66,11 +67,4 @@ fn op_turn(user: u32, op: LocalOp, named: Option<Blob>, change: Option<LocalChan
             names: None,
         }),
     }
-}
-
-/// A call that makes no change.
-pub fn quiet(call: Call) -> Next
-    ensures { result ≡ quiet_turn call }
-{
-    Next::Call { call, change: None }
 }

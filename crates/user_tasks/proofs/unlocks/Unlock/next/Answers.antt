@@ -1,51 +1,61 @@
-use Rattle.std.proofs.Common.{subst, sym, ◌∙◌, ap}
-use Rattle.std.specs.Prelude.{Option}
-use Rattle.tree_model.specs.declared.sites.Site.{Site}
-use Rattle.task_turns.specs.declared.next.Next.{Next}
-use Rattle.task_turns.specs.Turns.{Asks, seen_of}
+use Rattle.std.proofs.Common.{ap, subst, sym, ◌∙◌}
+use Rattle.open_task.specs.Turns.{OpenTurns}
 use Rattle.user_tasks.specs.declared.tasks.UserTask.TheVariants.{Unlock as OfUnlock}
-use Rattle.open_task.specs.Turns.{OpenTurns, OpenAsks}
-use Rattle.user_tasks.specs.declared.unlocks.Unlock.{Unlock}
-use Rattle.user_tasks.specs.Unlock.{opening_turn, ending_turn}
-use Rattle.user_tasks.specs.Tasks.{UserTurns, UserJobs, tasks}
-use Rattle.user_tasks.proofs.UnlockTurns.{opens-turn, ends-turn, done-turn, opens-asks, ends-asks, opens-jobs}
-use Rattle.user_tasks.proofs.UnlockTurns.{ends-jobs}
+use Rattle.user_tasks.specs.Tasks.{UserTurns}
+use Rattle.user_tasks.specs.Turns.{opening_turn, fixing_turn}
+use Rattle.user_tasks.specs.Unlock.{adding_turn}
+use Rattle.user_tasks.proofs.Fixing.{goes-on, has-stopped}
+use Rattle.user_tasks.proofs.UnlockTurns.{opens-turn, refuses-turn, drops-turn, sync-turn, adds-durable, adds-turn}
+use Rattle.user_tasks.proofs.UnlockTurns.{ends-turn}
 use Rattle.user_tasks.proofs.unlocks.Unlock.next.Goals as goal
 
-abbrev AllShow : Unlock → Next → Type 0
-AllShow unlock next = ((site : Option Site) → UserTurns (OfUnlock unlock) site next)
-    × Asks (seen_of tasks (OfUnlock unlock)) next × ((site : Option Site) → UserJobs (OfUnlock unlock) site next)
-
-pub returns-in-Some : goal.returns-in-Some
-returns-in-Some c =
+pub returns-in-Some-clause-turn : goal.returns-in-Some-clause-turn
+returns-in-Some-clause-turn c =
     let unlock = c.args.self.now in
-    let turns = subst (OpenTurns unlock.opening) c.in-Some.is c.in_ok-doing.ensures.turn in
-    let asks = subst (OpenAsks unlock.opening) c.in-Some.is c.in_ok-doing.ensures.asks in
-    let shown : AllShow unlock c.opening_turn.result =
-    subst (AllShow unlock)
-    (sym (c.opening_turn.ensures ∙ ap (λ user. opening_turn user c.in-Some.doing) c.user.ensures)) (
-      opens-turn unlock c.if-self.false c.in-Some.doing turns,
-      opens-asks unlock c.in-Some.doing asks,
-      opens-jobs unlock c.if-self.false c.in-Some.doing turns,
-    ) in
-    record { turn = shown.0; asks = shown.1; jobs = shown.2 }
+    subst (UserTurns (OfUnlock unlock) c.args.looks)
+    (sym (c.opening.ensures ∙ ap (λ user. opening_turn user c.in-Some.doing) c.user-user.ensures))
+    (opens-turn unlock c.in-Opening.is c.in-Some.doing
+    (subst (OpenTurns unlock.opening) c.in-Some.is c.in_ok-doing-in-Opening.ensures.turn) c.args.looks)
 
-pub returns-in-None : goal.returns-in-None
-returns-in-None c =
+pub returns-in-None-clause-turn : goal.returns-in-None-clause-turn
+returns-in-None-clause-turn c =
     let unlock = c.args.self.now in
-    let ended = subst (OpenTurns unlock.opening) c.in-None.is c.in_ok-doing.ensures.turn in
-    let shown : AllShow unlock c.ending_turn.result =
-    subst (AllShow unlock)
-    (sym (c.ending_turn.ensures ∙ ap (λ user. ending_turn user c.key.result) c.user-in-None.ensures)) (
-      ends-turn unlock c.if-self.false c.key.result (sym c.key.ensures) ended,
-      ends-asks unlock c.key.result,
-      ends-jobs unlock c.key.result,
-    ) in
-    record { turn = shown.0; asks = shown.1; jobs = shown.2 }
+    refuses-turn unlock c.in-Opening.is
+    (subst (OpenTurns unlock.opening) c.in-None.is c.in_ok-doing-in-Opening.ensures.turn) c.args.looks
 
-pub returns-then-self : goal.returns-then-self
-returns-then-self c = record {
-  turn = done-turn c.args.self.now c.if-self.true;
-  asks = tt;
-  jobs = λ site scene sound clear rests. tt;
-}
+pub returns-in-Some-next-clause-turn : goal.returns-in-Some-next-clause-turn
+returns-in-Some-next-clause-turn c =
+    let unlock = c.args.self.now in
+    let next = c.in-Some-next in
+    subst (UserTurns (OfUnlock unlock) c.args.looks)
+    (sym (c.fixing.ensures ∙ ap (λ user. fixing_turn user next.doing) c.user-user.ensures))
+    (drops-turn unlock c.in-Fixing.key c.in-Fixing.is next.doing (goes-on _ next.ensures.ended) next.ensures.turn
+    c.args.looks)
+
+pub returns-in-None-next-clause-turn : goal.returns-in-None-next-clause-turn
+returns-in-None-next-clause-turn c =
+    let unlock = c.args.self.now in
+    subst (UserTurns (OfUnlock unlock) c.args.looks)
+    (sym (c.adding.ensures ∙ ap (λ user. adding_turn user c.in-Fixing.key) c.user-user.ensures))
+    (adds-durable unlock c.in-Fixing.key c.in-Fixing.is (has-stopped _ c.in-None-next.ensures.ended) c.args.looks
+    c.if-looks.true)
+
+pub returns-in-None-2-clause-turn : goal.returns-in-None-2-clause-turn
+returns-in-None-2-clause-turn c =
+    let unlock = c.args.self.now in
+    subst (UserTurns (OfUnlock unlock) c.args.looks) (sym c.quiet.ensures)
+    (sync-turn unlock c.in-Fixing.key c.in-Fixing.is (has-stopped _ c.in-None-next.ensures.ended) c.args.looks)
+
+pub returns-in-Installing-clause-turn : goal.returns-in-Installing-clause-turn
+returns-in-Installing-clause-turn c =
+    let unlock = c.args.self.now in
+    let key = c.in-Installing.key in
+    subst (UserTurns (OfUnlock unlock) c.args.looks)
+    (sym (c.adding-in-Installing.ensures ∙ ap (λ user. adding_turn user key) c.user-user.ensures))
+    (adds-turn unlock key c.in-Installing.is c.args.looks)
+
+pub returns-in-Ending-clause-turn : goal.returns-in-Ending-clause-turn
+returns-in-Ending-clause-turn c =
+    let unlock = c.args.self.now in
+    subst (UserTurns (OfUnlock unlock) c.args.looks) (sym c.ending.ensures)
+    (ends-turn unlock c.in-Ending.is c.args.looks)
