@@ -1,5 +1,5 @@
 -- Replies that tell of a failure stay charged to failures of their devices, through each turn, stop and restart.
-use Rattle.std.proofs.Common.{◌≡◌, ◌≢◌, ◌≤◌, ◌⊎◌, inl, inr, ◌+◌, ◌-◌, ◌^◌, ℕ, List, [], ◌∷◌, ◌++◌}
+use Rattle.std.proofs.Common.{◌≡◌, ◌≢◌, ◌≤◌, ◌⊎◌, inl, inr, ◌+◌, ◌-◌, ◌^◌, ℕ, List, [], ◌∷◌, ◌++◌, IfSome}
 use Rattle.std.proofs.Common.{refl, ap, ◌∙◌, subst, sym, arith}
 use Rattle.std.specs.Prelude.{Option, Some, None, Ok}
 use Rattle.std.specs.FinMap as map
@@ -21,7 +21,7 @@ use Rattle.sorted_map.proofs.Sums.{worth, sum-insert, sum-remove}
 use Rattle.docket.proofs.Accounts.{sum-empty}
 use Rattle.user_world.specs.declared.changes.LocalChange.{LocalChange}
 use Rattle.task_turns.specs.declared.calls.Call.{Call}
-use Rattle.task_turns.specs.declared.calls.Call.TheVariants.{Op as OpCall, Sync, List as ListCall, Read}
+use Rattle.task_turns.specs.declared.calls.Call.TheVariants.{Op as OpCall, Sync, List as ListCall, Read, Delete}
 use Rattle.task_turns.specs.declared.calls.Call.TheVariants.{Generate, Encrypt, Decrypt, Entries, Add, Remove}
 use Rattle.bench.specs.declared.made.Made.{Made}
 use Rattle.bench.specs.declared.made.Made.TheVariants.{Heard, Failed}
@@ -39,6 +39,7 @@ use Rattle.vold_book.specs.Turns.{after_call, with_command, new_book, opened_at}
 use Rattle.vold_book.specs.Whole.{charge_of, charge_in, due_in, due_of, same_device, faults_of, IsCharged}
 use Rattle.vold_book.proofs.Plains.{Beginning, begun_plain, begun_seen, work_of, replied_plain}
 use Rattle.vold_book.proofs.Shown.{due_made}
+use Rattle.vold_book.proofs.Moves.{Notes}
 
 charges-append : (device : Device) (entries : List Entry) (entry : Entry)
     → total_by (charge_in device) (entries ++ entry ∷ [])
@@ -48,31 +49,33 @@ charges-append device (first ∷ entries) entry = let rest = charges-append devi
 
 -- the entry of a call is one of its command, and charges nothing
 pub noted-entry : (made : Made) (number : ℕ) (call : Call) (change : Option LocalChange)
-    → IsNoted number (made_entry made (entry_of number call change))
+    → IfSome (made_entry made (entry_of number call change)) (IsNoted number)
 noted-entry (Failed device) number call change = tt
 noted-entry (Heard answer) number (OpCall user op names) None = tt
-noted-entry (Heard answer) number (OpCall user op names) (Some change) = inr (inl (_, refl))
-noted-entry (Heard answer) number Sync change = inl refl
+noted-entry (Heard answer) number (OpCall user op names) (Some change) = refl
+noted-entry (Heard answer) number Sync change = tt
 noted-entry (Heard answer) number ListCall change = tt
 noted-entry (Heard answer) number (Read place) change = tt
 noted-entry (Heard answer) number (Generate tag app_id) change = tt
 noted-entry (Heard answer) number (Encrypt blob app_id nonce key) change = tt
 noted-entry (Heard answer) number (Decrypt blob app_id text) change = tt
 noted-entry (Heard answer) number Entries change = tt
-noted-entry (Heard answer) number (Add user class key) change = inr (inr (user, class, inl refl))
-noted-entry (Heard answer) number (Remove user class) change = inr (inr (user, class, inr refl))
+noted-entry (Heard answer) number (Add user class key) change = tt
+noted-entry (Heard answer) number (Remove user class) change = tt
+noted-entry (Heard answer) number (Delete item tells) change = tt
 
-charges-noted : (device : Device) (number : ℕ) (entries : List Entry) (entry : Option Entry) → IsNoted number entry
+uncharged : (device : Device) (number : ℕ) (entry : Entry) → IsNoted number entry → charge_in device entry ≡ 0
+uncharged device number (Replied replied reply) noted = absurd noted
+uncharged device number entry noted = refl
+
+charges-noted : (device : Device) (number : ℕ) (entries : List Entry) (entry : Option Entry)
+    → IfSome entry (IsNoted number)
     → total_by (charge_in device) (with_entry entries entry) ≡ total_by (charge_in device) entries
 charges-noted device number entries None noted = refl
-charges-noted device number entries (Some entry) (inl is) =
-    let a = charges-append device entries entry in let n = ap (charge_in device) is in omega (arith, a, n)
-charges-noted device number entries (Some entry) (inr (inl (change, is))) =
-    let a = charges-append device entries entry in let n = ap (charge_in device) is in omega (arith, a, n)
-charges-noted device number entries (Some entry) (inr (inr (user, class, inl is))) =
-    let a = charges-append device entries entry in let n = ap (charge_in device) is in omega (arith, a, n)
-charges-noted device number entries (Some entry) (inr (inr (user, class, inr is))) =
-    let a = charges-append device entries entry in let n = ap (charge_in device) is in omega (arith, a, n)
+charges-noted device number entries (Some entry) noted =
+    let more = charges-append device entries entry in
+    let nothing = uncharged device number entry noted in
+    omega (arith, more, nothing)
 
 -- what a reply charges was due
 due-fault : (device : Device) (task : Task) → IsFault device task → due_in device task ≡ 1
@@ -95,7 +98,7 @@ due-first device command start (Some reply) task first = ap (due_in device) firs
 due-first device command start None task first = by (user_in command) first
   where
     by : (user : Option ℕ) → AcceptedTask command start user task → due_in device task ≡ 0
-    by (Some user) accepted = ap (due_in device) accepted.1
+    by (Some user) accepted = ap (due_in device) accepted.2
     by None is = ap (due_in device) is
 
 -- a device is itself, and no other
@@ -206,17 +209,17 @@ module _ (book : Plain) (device : Device) (charged : IsCharged book device) wher
         | inr full ↦ inr (omega (arith, f, full))
       ]
 
-  module _ (actor : Actor) (number : ℕ) (making : Making) (made : Made) (after : Seen)
+  module _ (actor : Actor) (number : ℕ) (making : Making) (made : Made) (after : Seen) (notes : Notes)
       (counted : AreCounted book.bench after (device_of making.call) (told_of (Ok made)))
       (is_made : IsMade book.bench after making.call (Ok made)) where
-    pub called-charged : due_in device making.then ≡ due_made device made
-        → IsCharged (after_call book actor number making made after) device
+    pub called-charged : due_in device making.then ≤ due_made device made
+        → IsCharged (after_call book actor number (record making { owed = notes.owed }) made notes.marks after) device
     called-charged due =
         let a = charges-noted device number book.ledger.entries
         (made_entry made (entry_of number making.call making.change))
         (noted-entry made number making.call making.change) in
         let s = sum-insert actor_total (due_of device) book.docket.running actor
-        (record { number = number; task = making.then }) in
+        (record { number = number; task = making.then; owed = notes.owed }) in
         let f = faults-rise book.bench after device (device_of making.call) made counted
         (failed-own book.bench after making.call made is_made) in
         let never = f.never_falls in

@@ -1,24 +1,22 @@
 -- A turn that begins a command or gives a reply, and each of a Book's other calls, keeps its blobs in order.
 use Rattle.std.proofs.Common.{◌≡◌, ◌≢◌, ℕ, inl, inr, true, false, List, [], length, refl, sym, ap, ◌∙◌, subst}
 use Rattle.std.proofs.lemmas.Option.{same_Some}
-use Rattle.std.specs.Prelude.{◌+◌, Bool, Option, Some, None, IsSome, Contains, slice_get}
+use Rattle.std.specs.Prelude.{◌+◌, Option, Some, None, Contains, slice_get}
 use Rattle.std.specs.FinMap as map
 use Rattle.tree_model.specs.declared.blobs.Blob.{Blob}
 use Rattle.tree_model.specs.declared.ops.Cut.{Cut}
 use Rattle.tree_model.specs.Disk.{stopped}
 use Rattle.journal_model.specs.declared.commands.Actor.{Actor}
 use Rattle.journal_model.specs.declared.commands.Command.{Command}
-use Rattle.journal_model.specs.declared.commands.Command.TheVariants.{Recover}
 use Rattle.journal_model.specs.declared.commands.Reply.{Reply}
-use Rattle.journal_model.specs.declared.commands.Reply.TheVariants.{Ready, TreeFault, StoreFault, RingFault}
+use Rattle.journal_model.specs.declared.commands.Reply.TheVariants.{TreeFault, StoreFault, RingFault}
 use Rattle.journal_model.specs.declared.entries.Device.TheVariants.{Tree, Store, Ring}
 use Rattle.journal_model.specs.declared.phase.Phase.TheVariants.{Down}
-use Rattle.journal_model.specs.Command.{actor_of, user_in}
+use Rattle.journal_model.specs.Command.{actor_of}
 use Rattle.journal_model.specs.Machine.{Running as Began, is_up, phase_after, kind_of_reply}
 use Rattle.journal_model.specs.Machine.{Outcome, Refusal as RefusalKind, Fault as FaultKind}
-use Rattle.journal_model.specs.declared.refusals.Facts.{Facts}
-use Rattle.journal_model.specs.Refusals.{refusal_of, due}
-use Rattle.journal_model.proofs.ByCommand.{phase-stays, user-stays, no-user}
+use Rattle.journal_model.specs.Refusals.{due}
+use Rattle.journal_model.proofs.ByCommand.{phase-stays, user-stays}
 use Rattle.keystore_model.specs.Store.{IsLive}
 use Rattle.keystore_model.proofs.Elements.{Contains-none}
 use Rattle.blob_custody.specs.Custody.{Custody, IsListed, IsClean}
@@ -29,127 +27,42 @@ use Rattle.deferred_delete.specs.declared.items.Item.{Item}
 use Rattle.bench.specs.Bench.{Plain as Seen, listed}
 use Rattle.step_core.specs.declared.jobs.Job.{Job}
 use Rattle.task_turns.specs.declared.next.Next.TheVariants.{Reply as ReplyNext}
-use Rattle.user_tasks.specs.declared.tasks.UserTask.{UserTask}
 use Rattle.user_tasks.specs.Tasks.{rest_of}
 use Rattle.vold_book.specs.declared.opened.Opened.{Opened}
-use Rattle.vold_book.specs.declared.recovery.Recovery.{Recovery}
 use Rattle.vold_book.specs.declared.tasks.Running.{Running}
 use Rattle.vold_book.specs.declared.tasks.Task.{Task}
 use Rattle.vold_book.specs.declared.tasks.Task.TheVariants.{User as Using, Recovery as Recovers, Refusal, Fault}
 use Rattle.vold_book.specs.State.{Plain, Ground, ground_of}
 use Rattle.vold_book.specs.Recovery.{RecoveryEnds}
 use Rattle.vold_book.specs.Stops.{after_stop, after_restart}
-use Rattle.vold_book.specs.Tasks.{held_in, lists_with, TaskStands, TaskShows, Worked, Plans}
-use Rattle.vold_book.specs.Turns.{Start, FirstTask, AcceptedTask, facts_in, with_command, new_book, unlisted}
+use Rattle.vold_book.specs.Tasks.{held_in, lists_with, TaskStands, TaskShows, Worked, Plans, due_to}
+use Rattle.vold_book.specs.Turns.{with_command, new_book, unlisted}
 use Rattle.vold_book.specs.Whole.{Whole, held_of, all_held, custody_of}
-use Rattle.vold_book.proofs.Plains.{begun_seen, Beginning, work_of, begun_plain, replied_plain}
-use Rattle.vold_book.proofs.HeldBlobs.{none-held, else-held, remove-from, lets-all, same-begun}
+use Rattle.vold_book.proofs.Plains.{replied_plain}
+use Rattle.vold_book.proofs.HeldBlobs.{none-held, else-held, remove-from, lets-all}
 use Rattle.vold_book.proofs.HeldBlobs.{clean-held, clean-ready}
 use Rattle.vold_book.proofs.Custodies.{relisted, clean-listed, holds-alone}
 use Rattle.vold_book.proofs.CleanListing.{down-holds}
 use Rattle.vold_book.proofs.Shown.{next_reply}
 use Rattle.vold_book.proofs.Worked.{after-jobs, stands-now, held-now}
 
--- what begins holds nothing
-first-holds : (command : Command) (start : Start) (of : Option ℕ) (task : Task)
-    → AcceptedTask command start of task → held_in task ≡ []
-first-holds command start None task first = ap held_in first
-first-holds command start (Some user) task first = ap held_in first.1 ∙ first.2.held
-
-begun-holds : (command : Command) (start : Start) (refusal : Option Reply) (task : Task)
-    → FirstTask command start refusal task → held_in task ≡ []
-begun-holds command start (Some reply) task first = ap held_in first
-begun-holds command start None task first =
-    first-holds command start (user_in command) task first
-
 -- a test has one answer
 unlike : false ≡ true → ⊥
 unlike e = cc
 
--- a list that is emptied, on a machine that isn't ready
-clean-emptied : (custody : Custody) → IsClean custody → custody.ready ≡ false
-    → IsClean (record custody { list = unlisted custody.list })
-clean-emptied custody clean down = record {
-  placed = λ ready. absurd (unlike (sym down ∙ ready));
-  once = λ item other has. absurd (Contains-none item has);
-  live = λ item has. absurd (Contains-none item has);
-  unnamed = λ item has. absurd (Contains-none item has);
-  free = λ item has. absurd (Contains-none item has);
-  gone = λ none item has. absurd (Contains-none item has);
-  held_live = clean.held_live;
-  held_gone = clean.held_gone;
-}
-
--- a recovery begins on no machine that is up
-due-down : (facts : Facts) (command : Command) (start : Start) (recovery : Recovery)
-    → FirstTask command start (refusal_of command facts) (Recovers recovery) → facts.ready ≡ false
-due-down facts command start recovery first = by (user_in command) refl
-  where
-    accepted : (of : Option ℕ) → IsSome of → AcceptedTask command start of (Recovers recovery) → ⊥
-    accepted None some first = cc
-    accepted (Some user) some first = apart first.1
-      where
-        apart : {task : UserTask} → Recovers recovery ≡ Using task → ⊥
-        apart e = cc
-
-    of-user : (verdict : Option Reply) → IsSome (user_in command)
-        → FirstTask command start verdict (Recovers recovery) → ⊥
-    of-user (Some reply) some first = cc
-    of-user None some first = accepted (user_in command) some first
-
-    recovers : (up : Bool) → FirstTask Recover start (due up Ready) (Recovers recovery) → up ≡ false
-    recovers true first = cc
-    recovers false first = refl
-
-    by : (of : Option ℕ) → user_in command ≡ of → facts.ready ≡ false
-    by None of = recovers facts.ready (subst (λ c. FirstTask c start (refusal_of c facts)
-        (Recovers recovery)) (no-user command of) first)
-    by (Some user) of = absurd (of-user (refusal_of command facts) (subst IsSome (sym of) refl) first)
-
--- a command begins where its actor runs none
-module _ (book : Plain) (actor : Actor) (begins : Beginning) (start : Start) (whole : Whole book)
-    (idle : map.get book.docket.running actor ≡ None)
-    (first : FirstTask begins.command start
-    (refusal_of begins.command (facts_in book.bench.places book begins.command)) begins.task) where
-  begun-same : IsClean (record (custody_of book) {
-    held = all_held (map.insert book.docket.running actor (work_of begins));
-  })
-  begun-same = clean-held (custody_of book) (all_held (map.insert book.docket.running actor (work_of begins)))
-      whole.clean (same-begun book.docket.running actor (work_of begins) idle
-      (begun-holds begins.command start
-      (refusal_of begins.command (facts_in book.bench.places book begins.command)) begins.task first))
-
-  pub clean-begun : IsClean (custody_of (begun_plain book actor begins))
-  clean-begun = by begins.task first
-    where
-      by : (task : Task) → FirstTask begins.command start
-          (refusal_of begins.command (facts_in book.bench.places book begins.command)) task
-          → IsClean (record (custody_of book) {
-            disk = (begun_seen task book.bench).disk;
-            entries = (begun_seen task book.bench).store.entries;
-            list = (begun_seen task book.bench).list;
-            held = all_held (map.insert book.docket.running actor (work_of begins));
-          })
-      by (Using task) first = begun-same
-      by (Recovers recovery) first = clean-emptied _ begun-same
-          (due-down (facts_in book.bench.places book begins.command) begins.command start recovery
-          first)
-      by (Refusal reply) first = begun-same
-      by (Fault device held) first = begun-same
-
 -- a command that is told its reply lists what it holds
-lists-worked : (ground : Ground) (began : Began) (task now : Task) (jobs : List Job)
-    → Worked ground began task now jobs → lists_with now ≡ lists_with task
-lists-worked ground began task now jobs =
-    after-jobs ground began (λ task now. lists_with now ≡ lists_with task) (λ task. refl)
+lists-worked : (ground : Ground) (began : Began) (due : Option Item) (task now : Task) (jobs : List Job)
+    → Worked ground began due task now jobs → lists_with now ≡ lists_with task
+lists-worked ground began due task now jobs =
+    after-jobs ground began due (λ task now. lists_with now ≡ lists_with task) (λ task. refl)
     (λ task job now shows later. later) jobs task now
 
-lists-held : (ground : Ground) (began : Began) (now : Task) (reply : Reply)
-    → TaskShows ground began now (ReplyNext reply) → held_in now ≡ lists_with now
-lists-held ground began (Using task) reply shows = shows.held
-lists-held ground began (Recovers recovery) reply shows = refl
-lists-held ground began (Refusal refusal) reply shows = refl
-lists-held ground began (Fault device held) reply shows = refl
+lists-held : (ground : Ground) (began : Began) (due : Option Item) (now : Task) (reply : Reply)
+    → TaskShows ground began due now (ReplyNext reply) → held_in now ≡ lists_with now
+lists-held ground began due (Using task) reply shows = shows.held
+lists-held ground began due (Recovers recovery) reply shows = refl
+lists-held ground began due (Refusal refusal) reply shows = refl
+lists-held ground began due (Fault device held) reply shows = refl
 
 -- a refusal and a fault tell of no success
 refused : RefusalKind ≡ Outcome → ⊥
@@ -164,12 +77,12 @@ module _ (book : Plain) (actor : Actor) (it : Running) (now : Task) (command : C
   began = plans.on.began
 
   lists-now : lists_with now ≡ lists_with it.task
-  lists-now = lists-worked (ground_of book) began it.task now plans.jobs plans.worked
+  lists-now = lists-worked (ground_of book) began (due_to book it) it.task now plans.jobs plans.worked
 
   -- it holds what it lists
   holds-listed : held_of it ≡ lists_with it.task
   holds-listed = sym (held-now book actor it now (ReplyNext reply) plans)
-      ∙ lists-held (ground_of book) began now reply plans.shows ∙ lists-now
+      ∙ lists-held (ground_of book) began (due_to book it) now reply plans.shows ∙ lists-now
 
   -- the custody then, where a recovery is due as before
   abbrev let_go : Custody
@@ -226,7 +139,7 @@ module _ (book : Plain) (actor : Actor) (it : Running) (now : Task) (command : C
     clean-replied = by now (stands-now book actor it now (ReplyNext reply) plans) lists-now plans.shows
       where
         by : (task : Task) → TaskStands (ground_of book) task began → lists_with task ≡ lists_with it.task
-            → TaskShows (ground_of book) began task (ReplyNext reply)
+            → TaskShows (ground_of book) began (due_to book it) task (ReplyNext reply)
             → IsClean (record let_go { ready = is_up (phase_after book.tracker.phase command reply) })
         by (Using user) stands lists shows = stays-ready (user-stays book.tracker.phase (rest_of user).user command
             reply (sym (ap actor_of same-command) ∙ stands.of_user))

@@ -108,11 +108,11 @@ pub record IsFrom {K X : Type 0} {R : K → K → Ordering} (f : K → X → Lis
   pub at : map.get m key ≡ Some value
   pub has : Contains (f key value) u
 
-module _ {K X : Type 0} {R : K → K → Ordering} (total : IsTotalOrder R) (exact : IsAntisymmetric R)
-    (f : K → X → List ℕ) where
-  later : (row : K × X) (rows : List (K × X)) (k : K) (x : X) → T (below_all R row.0 rows)
+-- what a later row has under its key stays found behind an earlier row
+module _ {K X : Type 0} {R : K → K → Ordering} (total : IsTotalOrder R) (exact : IsAntisymmetric R) where
+  pub found-later : (row : K × X) (rows : List (K × X)) (k : K) (x : X) → T (below_all R row.0 rows)
       → find R k rows ≡ Some x → find R k (row ∷ rows) ≡ Some x
-  later row rows k x below found =
+  found-later row rows k x below found =
       elim (eq_by_cmp R k row.0) as (λ same. eq_by_cmp R k row.0 ≡ same
       → cond same (Some row.1) (find R k rows) ≡ Some x) [
         | true ↦ λ is. absurd (none-some x (sym (subst (λ at. find R at rows ≡ None)
@@ -120,6 +120,8 @@ module _ {K X : Type 0} {R : K → K → Ordering} (total : IsTotalOrder R) (exa
         | false ↦ λ is. found
       ] refl
 
+module _ {K X : Type 0} {R : K → K → Ordering} (total : IsTotalOrder R) (exact : IsAntisymmetric R)
+    (f : K → X → List ℕ) where
   first : (row : K × X) (rows : List (K × X)) → find R row.0 (row ∷ rows) ≡ Some row.1
   first row rows = ap (λ t. cond t (Some row.1) (find R row.0 rows)) (tied total exact row.0 row.0 refl)
 
@@ -135,7 +137,7 @@ module _ {K X : Type 0} {R : K → K → Ordering} (total : IsTotalOrder R) (exa
     | inr rest ↦
         let from = found-in rows (T_second (below_all R row.0 rows) (is_sorted R rows) sorted) u rest in
         let below = T_first (below_all R row.0 rows) (is_sorted R rows) sorted in
-        (from.0, from.1, later row rows from.0 from.1 below from.2, from.3)
+        (from.0, from.1, found-later total exact row rows from.0 from.1 below from.2, from.3)
   ]
 
   from-rows : (rows : List (K × X)) (k : K) (x : X) (u : ℕ) → find R k rows ≡ Some x → Contains (f k x) u
@@ -164,11 +166,12 @@ module _ {K X : Type 0} {R : K → K → Ordering} (total : IsTotalOrder R) (exa
       (λ u here rest.
       let from = found-in rows sorted_rest u rest in
       let same = apart row.0 from.0 row.1 from.1 u (first row rows)
-      (later row rows from.0 from.1 below from.2) here from.3 in
+      (found-later total exact row rows from.0 from.1 below from.2) here from.3 in
       none-some from.1 (sym (absent-below total (λ _. 0) row.0 rows below)
       ∙ ap (λ at. find R at rows) same ∙ from.2))
       (rows-once short rows sorted_rest (λ k k' x x' u at at' has has'.
-      apart k k' x x' u (later row rows k x below at) (later row rows k' x' below at') has has'))
+      apart k k' x x' u (found-later total exact row rows k x below at)
+      (found-later total exact row rows k' x' below at') has has'))
 
   -- each element is from a row
   pub all-found : (m : map.FinMap R X) (u : ℕ) → Contains (all_of f m) u → IsFrom f m u

@@ -259,7 +259,7 @@ module _ (book : Plain) (whole : Whole book) (up : book.tracker.phase ≡ Up) wh
   users_now = fold_changes machine.log
 
   knows : Knows book.bench.places (view book.bench.disk)
-  knows = subst (λ phase. PhaseStands phase book machine) up whole.phase
+  knows = (subst (λ phase. PhaseStands phase book machine) up whole.phase).0
 
   known-now : (user : ℕ) → is_some (map.get book.bench.places (De user)) ≡ map.contains_key users_now user
   known-now user = knows.there (De user)

@@ -1,7 +1,7 @@
 -- Each turn of a Book keeps its blobs in order: every live one is named, held or listed.
-use Rattle.std.proofs.Common.{◌≡◌, ℕ, ◌++◌, inl, inr, true, List, [], ◌∷◌, sym, ap, ◌∙◌, subst}
+use Rattle.std.proofs.Common.{◌≡◌, ℕ, ◌+◌, ◌++◌, inl, inr, true, false, List, [], ◌∷◌, length, sym, ap, ◌∙◌, subst}
 use Rattle.std.proofs.lemmas.Option.{same_Some}
-use Rattle.std.specs.Prelude.{Bool, Some, None}
+use Rattle.std.specs.Prelude.{Bool, Some, None, Contains}
 use Rattle.std.specs.FinMap as map
 use Rattle.tree_model.specs.declared.blobs.Blob.{Blob}
 use Rattle.tree_model.specs.declared.sites.LocalOp.{LocalOp}
@@ -12,14 +12,15 @@ use Rattle.journal_model.specs.declared.commands.Actor.TheVariants.{User as User
 use Rattle.journal_model.specs.Machine.{is_up}
 use Rattle.keystore_model.specs.declared.entry.StoreEntry.{StoreEntry}
 use Rattle.keystore_model.specs.declared.entry.Tag.{Tag}
-use Rattle.keystore_model.specs.Store.{Store, IsGenerated, new_entry}
+use Rattle.keystore_model.specs.Store.{Store, Differ, IsGenerated, new_entry, deleted}
 use Rattle.keystore_model.proofs.Elements.{Contains-first}
 use Rattle.keystore_model.proofs.Stores.{not-given}
-use Rattle.deferred_delete.specs.Deferral.{Deferral, noted}
+use Rattle.deferred_delete.specs.declared.items.Item.{Item}
+use Rattle.deferred_delete.specs.Deferral.{Deferral, noted, taken}
 use Rattle.blob_custody.specs.Custody.{Custody, IsListed, IsClean}
-use Rattle.blob_custody.specs.Steps.{LetsGo, Renames, after_sync, with_held_entry}
-use Rattle.blob_custody.proofs.Steps.{clean-generated, clean-operation, clean-sync}
-use Rattle.bench.specs.Bench.{Plain as Seen}
+use Rattle.blob_custody.specs.Steps.{LetsGo, Renames, after_sync, with_held_entry, without_item}
+use Rattle.blob_custody.proofs.Steps.{clean-generated, clean-operation, clean-sync, clean-delete, lets-none}
+use Rattle.bench.specs.Bench.{Plain as Seen, listed_as}
 use Rattle.vold_book.specs.declared.tasks.Running.{Running}
 use Rattle.vold_book.specs.State.{Plain}
 use Rattle.vold_book.specs.Whole.{Whole, held_of, all_held, custody_of}
@@ -96,18 +97,49 @@ module _ (book : Plain) (whole : Whole book) (actor : Actor) (it then : Running)
   clean-still same = clean-held (custody_of book) (all_held (map.insert book.docket.running actor then)) whole.clean
       (same-insert book.docket.running actor it then runs same)
 
-  -- one more operation of a user's, which drops nothing
-  pub clean-renamed : (bench : Seen) (user : ℕ) (op : LocalOp) (gains : List Blob)
-      → Renames book.bench.disk user op gains [] → LetsGo (held_of it) gains (held_of then)
-      → sensed bench ≡ sensed (record book.bench { disk = with_op book.bench.disk (op_of user op) }) → CleanAt bench
-  clean-renamed bench user op gains renames goes is = subst CleanSensed (sym is)
-      (clean-operation (custody_of book) user op gains [] (all_held (map.insert book.docket.running actor then))
-      whole.clean (record {
+  -- one more operation of a user's, with what it drops listed
+  pub clean-operated : (bench : Seen) (user : ℕ) (op : LocalOp) (gains drops : List Blob)
+      → Renames book.bench.disk user op gains drops → Differ drops → LetsGo (held_of it) gains (held_of then)
+      → sensed bench ≡ sensed (record book.bench {
+        disk = with_op book.bench.disk (op_of user op);
+        list = listed_as false book.bench.list drops;
+      }) → CleanAt bench
+  clean-operated bench user op gains drops renames differ goes is = subst CleanSensed (sym is)
+      (clean-operation (record (custody_of book) {
+        list = record book.bench.list { promised = book.bench.list.promised + length drops };
+      }) user op gains drops (all_held (map.insert book.docket.running actor then))
+      (clean-listed (custody_of book) book.bench.list.next (book.bench.list.promised + length drops) whole.clean)
+      (record {
         names = names-live book whole;
         renames = renames;
         lets_go = lets-go book.docket.running actor it runs (holds-alone book whole actor it runs) gains then goes;
+        differ = differ;
+      }))
+
+  -- one of the temporary place, with nothing listed
+  pub clean-renamed : (bench : Seen) (user : ℕ) (op : LocalOp) → Renames book.bench.disk user op [] []
+      → held_of then ≡ held_of it
+      → sensed bench ≡ sensed (record book.bench { disk = with_op book.bench.disk (op_of user op) }) → CleanAt bench
+  clean-renamed bench user op renames same is = subst CleanSensed (sym is)
+      (clean-operation (custody_of book) user op [] [] (all_held (map.insert book.docket.running actor then))
+      whole.clean (record {
+        names = names-live book whole;
+        renames = renames;
+        lets_go = lets-go book.docket.running actor it runs (holds-alone book whole actor it runs) [] then
+            (lets-none (held_of it) (held_of then) same);
         differ = tt;
       }))
+
+  -- the entry of a listed item was deleted
+  pub clean-deleted : (bench : Seen) (item : Item) → Contains book.bench.list.items item → held_of then ≡ held_of it
+      → sensed bench ≡ sensed (record book.bench {
+        store = deleted book.bench.store item.blob;
+        list = record book.bench.list { items = taken book.bench.list.items item.number };
+      }) → CleanAt bench
+  clean-deleted bench item listed same is = subst CleanSensed (sym is)
+      (clean-held (without_item (custody_of book) item) (all_held (map.insert book.docket.running actor then))
+      (clean-delete (custody_of book) item whole.clean whole.numbered listed)
+      (same-insert book.docket.running actor it then runs same))
 
   pub clean-synced : (bench : Seen) → held_of then ≡ held_of it
       → sensed bench ≡ sensed (record book.bench {

@@ -1,5 +1,5 @@
 -- Each turn that goes leaves fewer turns.
-use Rattle.std.proofs.Common.{◌≡◌, ◌≢◌, inl, inr, ℕ, ◌+◌, ◌<◌, ◌≤◌, T, true, false, cond, List, [], ◌∷◌}
+use Rattle.std.proofs.Common.{◌≡◌, ◌≢◌, inl, inr, ℕ, ◌+◌, ◌<◌, ◌≤◌, T, cond, List, [], ◌∷◌}
 use Rattle.std.proofs.Common.{length, refl, sym, ap, ◌∙◌, subst, arith}
 use Rattle.std.proofs.lemmas.Option.{none-some}
 use Rattle.std.specs.Prelude.{Option, Some, None, IsNone, Ok, map as map_list}
@@ -8,8 +8,7 @@ use Rattle.std.specs.Cmp.{IsTotalOrder}
 use Rattle.std.specs.FinMap as map
 use Rattle.std.specs.FinMap.{IsAntisymmetric, entries_sorted}
 use Rattle.std.specs.FinMap.Entries.{find, is_sorted, below_all}
-use Rattle.std.specs.Ordering.{eq_by_cmp}
-use Rattle.tree_model.proofs.Logic.{is_equal, T_first, T_second}
+use Rattle.tree_model.proofs.Logic.{T_first, T_second}
 use Rattle.tree_model.proofs.Maps.{tied, decide_key, get-remove_same, get-remove_other, insert-remove}
 use Rattle.tree_model.specs.declared.sites.LocalOp.{LocalOp}
 use Rattle.tree_model.specs.declared.sites.LocalOp.TheVariants.{MakeDir, Write, RenameFile}
@@ -25,12 +24,12 @@ use Rattle.journal_model.specs.Actor.{actor_total, actor_exact}
 use Rattle.journal_model.specs.Command.{actor_of, user_in}
 use Rattle.journal_model.proofs.ByCommand.{no-user}
 use Rattle.sorted_map.specs.Sums.{total_by}
-use Rattle.sorted_map.proofs.Sums.{absent-below, worth, sum-insert, sum-remove}
+use Rattle.sorted_map.proofs.Sums.{worth, sum-insert, sum-remove}
 use Rattle.docket.proofs.Accounts.{sum-left}
-use Rattle.step_core.specs.Table.{NamedPlaces}
+use Rattle.step_core.specs.Table.{NamedPlaces, Users}
 use Rattle.task_turns.specs.declared.calls.Answer.{Answer}
 use Rattle.task_turns.specs.declared.calls.Call.{Call}
-use Rattle.task_turns.specs.declared.calls.Call.TheVariants.{Op as OpCall, Sync, List as ListCall, Read}
+use Rattle.task_turns.specs.declared.calls.Call.TheVariants.{Op as OpCall, Sync, List as ListCall, Read, Delete}
 use Rattle.task_turns.specs.declared.calls.Call.TheVariants.{Generate, Encrypt, Decrypt, Entries, Add, Remove}
 use Rattle.bench.specs.declared.made.Made.{Made}
 use Rattle.bench.specs.declared.made.Made.TheVariants.{Heard, Failed}
@@ -40,27 +39,19 @@ use Rattle.vold_book.specs.declared.recovery.Recovery.{Recovery}
 use Rattle.vold_book.specs.declared.tasks.Running.{Running}
 use Rattle.vold_book.specs.declared.tasks.Task.{Task}
 use Rattle.vold_book.specs.declared.tasks.Task.TheVariants.{User as Using, Recovery as Recovers, Refusal, Fault}
-use Rattle.vold_book.specs.Recovery.{max_places}
 use Rattle.vold_book.specs.State.{Plain, machine_of, ground_of}
 use Rattle.vold_book.specs.Tasks.{TaskStands, RunsOn}
 use Rattle.vold_book.specs.Turns.{Start, FirstTask, AcceptedTask, Making, after_call}
-use Rattle.vold_book.specs.Whole.{Whole, PhaseStands, most_turns, turns_of_task, turns_of, turns_left}
+use Rattle.vold_book.specs.Whole.{Whole, PhaseStands, most_turns, turns_of_task, count_from, turns_of, turns_left}
+use Rattle.vold_book.proofs.Counted.{found-later}
 use Rattle.vold_book.proofs.Plains.{Beginning, begun_plain, begun_seen, work_of, replied_plain}
-use Rattle.vold_book.proofs.Shown.{CallFalls, cost_made}
+use Rattle.vold_book.proofs.Shown.{CallFalls, cost_made, drops_made}
 use Rattle.vold_book.proofs.Sizes.{len-with_op}
+use Rattle.vold_book.proofs.Small.{FewSlots}
+use Rattle.task_turns.specs.Turns.{cost_of}
 
 -- two counts that agree on each value of a map have one sum
 module _ {K X : Type 0} {R : K → K → Ordering} (total : IsTotalOrder R) (exact : IsAntisymmetric R) (f g : X → ℕ) where
-  found-later : (row : K × X) (rows : List (K × X)) (k : K) (x : X) → T (below_all R row.0 rows)
-      → find R k rows ≡ Some x → find R k (row ∷ rows) ≡ Some x
-  found-later row rows k x below found =
-      elim (eq_by_cmp R k row.0) as (λ same. eq_by_cmp R k row.0 ≡ same
-      → cond same (Some row.1) (find R k rows) ≡ Some x) [
-        | true ↦ λ is. absurd (none-some x (sym (subst (λ at. find R at rows ≡ None)
-            (sym (exact k row.0 (is_equal _ is))) (absent-below total f row.0 rows below)) ∙ found))
-        | false ↦ λ is. found
-      ] refl
-
   same-rows : (rows : List (K × X)) → T (is_sorted R rows)
       → ((k : K) (x : X) → find R k rows ≡ Some x → f x ≡ g x)
       → total_by f (map_list (λ row. row.1) rows) ≡ total_by g (map_list (λ row. row.1) rows)
@@ -70,7 +61,7 @@ module _ {K X : Type 0} {R : K → K → Ordering} (total : IsTotalOrder R) (exa
       let here = same row.0 row.1
       (ap (λ t. cond t (Some row.1) (find R row.0 rows)) (tied total exact row.0 row.0 refl)) in
       let rest = same-rows rows (T_second (below_all R row.0 rows) (is_sorted R rows) sorted)
-      (λ k x found. same k x (found-later row rows k x below found)) in
+      (λ k x found. same k x (found-later total exact row rows k x below found)) in
       omega (arith, here, rest)
 
   pub same-sums : (m : map.FinMap R X) → ((k : K) (x : X) → map.get m k ≡ Some x → f x ≡ g x)
@@ -108,7 +99,7 @@ failed-op-len before after user (RemoveDir site) fits failed = ap (λ b. map.len
 
 failed-len : (before after : Seen) (call : Call) → Fits before call → IsFailed before after call
     → map.len (view after.disk) ≡ map.len (view before.disk)
-failed-len before after (OpCall user op names) fits failed = failed-op-len before after user op fits failed
+failed-len before after (OpCall user op names) fits failed = failed-op-len before after user op fits.0 failed
 failed-len before after Sync fits failed = ap (λ b. map.len (view b.disk)) failed
 failed-len before after ListCall fits failed = ap (λ b. map.len (view b.disk)) failed
 failed-len before after (Read place) fits failed = ap (λ b. map.len (view b.disk)) failed
@@ -118,12 +109,13 @@ failed-len before after (Decrypt blob app_id text) fits failed = ap (λ b. map.l
 failed-len before after Entries fits failed = ap (λ b. map.len (view b.disk)) failed
 failed-len before after (Add user class key) fits failed = ap (λ b. map.len (view b.disk)) failed
 failed-len before after (Remove user class) fits failed = ap (λ b. map.len (view b.disk)) failed
+failed-len before after (Delete item tells) fits failed = ap (λ b. map.len (view b.disk)) failed
 
 done-len : (before after : Seen) (call : Call) (answer : Answer) → Fits before call → Does before after call answer
     → map.len (view after.disk) + (cost_made call (Heard answer)).takes
     ≡ map.len (view before.disk) + (cost_made call (Heard answer)).makes
 done-len before after (OpCall user op names) answer fits does =
-    let l = len-with_op before.disk user op fits in
+    let l = len-with_op before.disk user op fits.0 in
     let e = ap (λ b. map.len (view b.disk)) does.1 in
     omega (arith, l, e)
 done-len before after Sync answer fits does = ap (λ b. map.len (view b.disk) + 0) does.1
@@ -135,6 +127,7 @@ done-len before after (Decrypt blob app_id text) answer fits does = ap (λ b. ma
 done-len before after Entries answer fits does = ap (λ b. map.len (view b.disk) + 0) does.1.2
 done-len before after (Add user class key) answer fits does = ap (λ b. map.len (view b.disk) + 0) does.1
 done-len before after (Remove user class) answer fits does = ap (λ b. map.len (view b.disk) + 0) does.1
+done-len before after (Delete item tells) answer fits does = ap (λ b. map.len (view b.disk) + 0) does.1
 
 made-len : (before after : Seen) (call : Call) (made : Made) → Fits before call
     → IsMade before after call (Ok made)
@@ -146,14 +139,21 @@ made-len before after call (Failed device) fits is_made =
 
 -- what begins has so many turns at most
 first-turns : (command : Command) (start : Start) (verdict : Option Reply) (task : Task)
-    → length start.slots ≤ max_places → FirstTask command start verdict task → (places : NamedPlaces)
+    → FewSlots command start → FirstTask command start verdict task → (places : NamedPlaces)
     → turns_of_task places task < most_turns
-first-turns command start (Some reply) task tried first places =
+first-turns command start (Some reply) task slots first places =
     let e = ap (turns_of_task places) first in omega (arith, e)
-first-turns command start None task tried first places = by (user_in command) first
+first-turns command start None task slots first places = by (user_in command) first
   where
     by : (user : Option ℕ) → AcceptedTask command start user task → turns_of_task places task < most_turns
-    by (Some user) first = let e = ap (turns_of_task places) first.1 in let few = first.2.few in omega (arith, e, few)
+    by (Some user) first =
+        let e = ap (turns_of_task places) first.2 in
+        let few = first.4.few in
+        let tried = ap length first.3.to_try in
+        let owned = ap length first.3.slots in
+        let few_tried = slots.tried in
+        let few_owned = slots.owned in
+        omega (arith, e, few, tried, owned, few_tried, few_owned)
     by None first = let e = ap (turns_of_task places) first in omega (arith, e)
 
 no_worth : (f : Running → ℕ) (found : Option Running) → IsNone found → worth f found ≡ 0
@@ -165,7 +165,8 @@ module _ (book : Plain) (whole : Whole book) where
   other-turns : (places : NamedPlaces) (other : Actor) (o : Running) → map.get book.docket.running other ≡ Some o
       → (book.tracker.phase ≡ Down → other ≡ Boot → ⊥)
       → turns_of places o ≡ turns_of book.bench.places o
-  other-turns places other o at apart = by o.task run.stands
+  other-turns places other o at apart =
+      ap (λ turns. turns + count_from o.owed.from o.owed.items) (by o.task run.stands)
     where
       run : RunsOn (ground_of book) (machine_of book) other o
       run = whole.run other o at
@@ -196,7 +197,7 @@ module _ (book : Plain) (whole : Whole book) where
         where
           accepted : (user : Option ℕ) → user_in begins.command ≡ user
               → AcceptedTask begins.command start user begins.task → actor_of begins.command ≡ Boot
-          accepted (Some user) of first = absurd (unlike first.0 (sym first.1 ∙ is))
+          accepted (Some user) of first = absurd (unlike first.0 (sym first.2 ∙ is))
             where
               unlike : (task : UserTask) → {recovery : Recovery} → Using task ≡ Recovers recovery → ⊥
               unlike task e = cc
@@ -209,7 +210,7 @@ module _ (book : Plain) (whole : Whole book) where
 
       pub begun-falls : IsNone (map.get book.docket.running actor)
           → map.get book.docket.waiting actor ≡ Some (begins.number ∷ begins.numbers)
-          → actor_of begins.command ≡ actor → length start.slots ≤ max_places → Starts begins.task
+          → actor_of begins.command ≡ actor → FewSlots begins.command start → Starts begins.task
           → turns_left (begun_plain book actor begins) < turns_left book
       begun-falls idle queue own tried first =
           let q = sum-left actor_total actor_exact book.docket.waiting actor begins.number begins.numbers queue in
@@ -233,19 +234,25 @@ module _ (book : Plain) (whole : Whole book) where
           kept (Fault device held) is other o differ at = refl
 
     module _ (it : Running) (runs : map.get book.docket.running actor ≡ Some it) where
+      -- what it owes then is what it owed and what it dropped, and a delete is one less
+      abbrev pub OwesFewer : Making → Made → Type 0
+      OwesFewer making made =
+          count_from making.owed.from making.owed.items + (cost_of None making.call).deletes
+          ≤ count_from it.owed.from it.owed.items + drops_made book.bench.places making.call made
+
       -- once a call was made, also where its device failed
-      pub called-falls : (making : Making) (made : Made) (after : Seen)
-          → CallFalls book.bench.places after.places making.call made it.task making.then
+      pub called-falls : (making : Making) (made : Made) (marks : Users) (after : Seen)
+          → CallFalls book.bench.places after.places making.call made it.task making.then → OwesFewer making made
           → Fits book.bench making.call → IsMade book.bench after making.call (Ok made)
-          → turns_left (after_call book actor it.number making made after) < turns_left book
-      called-falls making made after shows fits is_made =
+          → turns_left (after_call book actor it.number making made marks after) < turns_left book
+      called-falls making made marks after shows owes fits is_made =
           let l = made-len book.bench after making.call made fits is_made in
           let s = sum-changed actor_total actor_exact (turns_of book.bench.places) (turns_of after.places)
-          book.docket.running actor (record { number = it.number; task = making.then })
+          book.docket.running actor (record { number = it.number; task = making.then; owed = making.owed })
           (λ other o differ at. other-turns after.places other o at (λ down boot. differ (boot ∙ sym (alone down)))) in
           let w = ap (worth (turns_of book.bench.places)) runs in
           let turns = shows.turns in
-          omega (arith, l, s, w, turns)
+          omega (arith, l, s, w, turns, owes)
         where
           alone : book.tracker.phase ≡ Down → actor ≡ Boot
           alone down = (subst (λ phase. PhaseStands phase book (machine_of book)) down whole.phase).1 actor it runs

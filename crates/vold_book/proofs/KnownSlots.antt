@@ -31,7 +31,8 @@ use Rattle.key_directory.proofs.Present.{there-user}
 use Rattle.task_turns.specs.Shares.{Share, IsNextSlot}
 use Rattle.step_core.specs.Table.{NamedPlaces}
 use Rattle.bench.specs.Known.{Knows}
-use Rattle.vold_book.specs.Slots.{slot_of, slots_known, is_full, slot_numbered, slot_next}
+use Rattle.bench.specs.Slots.{slot_of, slots_known}
+use Rattle.vold_book.specs.Slots.{is_full, slot_numbered, slot_next}
 use Rattle.vold_book.specs.State.{Plain, machine_of, ground_of, share_of}
 use Rattle.vold_book.specs.Whole.{Whole}
 use Rattle.vold_book.proofs.Counted.{NoneTwice, same-count, all_of, all-found, from-all, all-once, Contains-single}
@@ -109,7 +110,7 @@ numbers-all user (row ∷ all) =
 module _ (places : NamedPlaces) (tree : Tree) (knows : Knows places tree) (user : ℕ) (vault : Vault) (part : Part)
     (shown : part ≡ part_of tree user) (known : Record) (stands : SealedStands vault user (standing part) known) where
   -- a slot is recorded where its place is known
-  slot-there : (slot : Slot) → is_some (maps.get places (Ce user slot)) ≡ is_some (maps.get known.secrets slot)
+  pub slot-there : (slot : Slot) → is_some (maps.get places (Ce user slot)) ≡ is_some (maps.get known.secrets slot)
   slot-there slot = knows.there (Ce user slot) ∙ ap (λ p. is_some (p (CeSite slot))) (sym shown)
       ∙ by (part (CeSite slot)) (maps.get known.secrets slot) _ (stands.opens (CeSite slot))
     where
@@ -166,13 +167,13 @@ module _ (places : NamedPlaces) (tree : Tree) (knows : Knows places tree) (user 
   same-next = let most = next-more (slots_known places user) recorded there in
       let least = next-more recorded (slots_known places user) back in omega (arith, most, least)
 
-  pub same-left : leave_none (slots_known places user) ≡ leave_none recorded
-  same-left =
-      let count : length (slots_known places user) ≡ length recorded =
-      sym (length-map (slots_known places user) after_slot)
+  pub as-many : length (slots_known places user) ≡ length recorded
+  as-many = sym (length-map (slots_known places user) after_slot)
       ∙ same-count (numbers (slots_known places user)) (numbers recorded) known-once recorded-once there back
-      ∙ length-map recorded after_slot in
-      λ i. nat_le 8 (count i) || nat_le (2 ^ 32) (same-next i)
+      ∙ length-map recorded after_slot
+
+  pub same-left : leave_none (slots_known places user) ≡ leave_none recorded
+  same-left = λ i. nat_le 8 (as-many i) || nat_le (2 ^ 32) (same-next i)
 
 -- where one is left, it is the slot of the next number
 pub left-next : (slots : List Slot) → leave_none slots ≡ false
@@ -188,25 +189,25 @@ module _ (book : Plain) (whole : Whole book) (user : ℕ) (knows : Knows book.be
   abbrev machine : Machine
   machine = machine_of book
 
-  abbrev share : Share
+  abbrev pub share : Share
   share = share_of user (ground_of book)
 
-  shown : own_view share.own ≡ part_of (view book.bench.disk) user
+  pub shown : own_view share.own ≡ part_of (view book.bench.disk) user
   shown = view-shown user _ (ground_of book).line whole.worlds.shows
 
-  record-is : own_record share.own ≡ maps.get (fold_changes machine.log) user
+  pub record-is : own_record share.own ≡ maps.get (fold_changes machine.log) user
   record-is = known-shown user _ (ground_of book).line whole.worlds.shows
 
   view-is : PartStands (sealed share.vault) user (own_view share.own) (own_record share.own)
   view-is = view-stands (sealed share.vault) user share.own (whole.worlds.images user)
 
   -- the record of a user who is there
-  record IsThere : Type 0 where
-    known : Record
-    is : own_record share.own ≡ Some known
-    stands : SealedStands share.vault user (standing (own_view share.own)) known
+  pub record IsThere : Type 0 where
+    pub known : Record
+    pub is : own_record share.own ≡ Some known
+    pub stands : SealedStands share.vault user (standing (own_view share.own)) known
 
-  who-is : IsSome (maps.get book.bench.places (De user)) → IsThere
+  pub who-is : IsSome (maps.get book.bench.places (De user)) → IsThere
   who-is there = by (own_record share.own) refl view-is
     where
       here : is_some (own_view share.own DeSite) ≡ true

@@ -1,15 +1,19 @@
 -- What a Book's calls that make no turn leave, over any devices: opening it, a further command, a stop and a restart,
 -- each of which keeps it whole.
 use Rattle.std.proofs.Common.{◌≡◌, ◌≢◌, ℕ, ◌+◌, ◌-◌, ◌^◌, ◌<◌, ◌≤◌, [], ◌∷◌, ◌++◌, length, take, min}
-use Rattle.std.proofs.Common.{refl, sym, ap, ◌∙◌, subst, arith}
+use Rattle.std.proofs.Common.{true, false, refl, sym, ap, ◌∙◌, subst, arith}
 use Rattle.std.specs.Prelude.{Result, Ok, Err, OnOk, OnErr}
+use Rattle.std.proofs.lemmas.List.Elements.{All-nil}
 use Rattle.std.proofs.lemmas.Option.{none-some}
 use Rattle.std.specs.FinMap as map
+use Rattle.std.specs.FinSet as set
 use Rattle.tree_model.specs.declared.memory.NoMemory.{NoMemory}
 use Rattle.tree_model.specs.declared.ops.Cut.{Cut}
 use Rattle.tree_model.specs.Disk.{stopped}
 use Rattle.keystore_model.specs.Store.{empty_store}
+use Rattle.keystore_model.proofs.Elements.{Contains-none}
 use Rattle.keystore_model.proofs.Stores.{store-empty}
+use Rattle.deferred_delete.proofs.Numbered.{numbered-none}
 use Rattle.journal_model.specs.declared.commands.Actor.{Actor}
 use Rattle.journal_model.specs.declared.commands.Actor.TheVariants.{Boot}
 use Rattle.journal_model.specs.declared.commands.Command.{Command}
@@ -34,11 +38,13 @@ use Rattle.vold_book.specs.Turns.{opened_at, new_book, new_bench, with_command, 
 use Rattle.vold_book.specs.Whole.{Whole, IsWhole, faults_of}
 use Rattle.vold_book.proofs.Charged.{given-charged, stopped-charged, restarted-charged, opened-charged}
 use Rattle.vold_book.proofs.CleanTurns.{clean-given, clean-stopped, clean-restarted, clean-opened}
+use Rattle.vold_book.proofs.EndedStops.{ended-given, ended-stopped, ended-restarted}
 use Rattle.vold_book.proofs.Numbers.{few-begun}
 use Rattle.vold_book.proofs.RingKept.{ring-empty, ring-entered, ring-emptied}
 use Rattle.vold_book.proofs.Small.{small-given, small-stopped, small-restarted, small-opened}
 use Rattle.vold_book.proofs.StepsMade.{all-changes}
 use Rattle.vold_book.proofs.Stopped.{whole-stopped, whole-given, whole-restarted, whole-opened, opened_seen}
+use Rattle.vold_book.proofs.SweptKept.{swept-quiet}
 use Rattle.vold_book.proofs.Tracked.{log-short, count-kept}
 
 -- what each part of a Book is as it is opened over the devices
@@ -52,6 +58,7 @@ pub record Opens {D E F : Type 0} (senses : Senses D E F) (tree : D) (store : E)
   pub opened : book.opened
       ≡ opened_at (senses.tree_counts tree) (senses.store_counts store) (senses.ring_counts ring)
   pub boot_seed : book.boot_seed ≡ boot_seed_of book.seed 0
+  pub marks : book.marks ≡ set.empty
   pub ledger : book.ledger ≡ no_ledger
   pub docket : book.docket ≡ empty_docket
   pub tracker : book.tracker ≡ new_tracker
@@ -74,6 +81,13 @@ module _ {D E F : Type 0} (senses : Senses D E F) (tree : D) (store : E) (ring :
         current = λ blob entry live. absurd (none-some entry live);
         ring = ring-empty _ book.seed first_machine refl;
         clean = clean-opened bench (opened_at tree_counts store_counts ring_counts) book.seed refl refl;
+        numbered = record {
+          rising = λ i j d before within. absurd (omega arith);
+          below = All-nil (λ number. number < 0);
+          few = omega arith;
+        };
+        swept = λ blob has. absurd (Contains-none blob has);
+        ended = λ user was. absurd (never was);
         small = small-opened bench (opened_at tree_counts store_counts ring_counts) book.seed 1 refl refl refl;
         charged = opened-charged bench book.seed;
       }) in
@@ -86,12 +100,16 @@ module _ {D E F : Type 0} (senses : Senses D E F) (tree : D) (store : E) (ring :
         opened = opens.opened i;
         seed = book.seed;
         boot_seed = opens.boot_seed i;
+        marks = opens.marks i;
         ledger = opens.ledger i;
         docket = opens.docket i;
         tracker = opens.tracker i;
       } in
       subst (IsWhole senses) (sym is)
       (subst (λ b. Whole (new_book b (opened_at tree_counts store_counts ring_counts) book.seed)) (sym is_seen) plain)
+    where
+      never : false ≡ true → ⊥
+      never e = cc
 
 -- what each part of a Book is once the machine stopped: the ledger had its room by then, and the cut was copied
 pub record Stops {D E F : Type 0} (senses : Senses D E F) (before after : BookState (BenchState D E F)) (cut : Cut) :
@@ -177,6 +195,9 @@ module _ {D E F : Type 0} (senses : Senses D E F) (book : BookState (BenchState 
         current = whole.current;
         ring = whole.ring;
         clean = clean-given plain command whole;
+        numbered = whole.numbered;
+        swept = whole.swept;
+        ended = λ user. ended-given plain whole user command;
         small = small-given plain whole.small command;
         charged = λ device. given-charged plain device (whole.charged device) command;
       })
@@ -216,6 +237,7 @@ module _ {D E F : Type 0} (senses : Senses D E F) (book : BookState (BenchState 
           opened = (stops.rest i).opened;
           seed = (stops.rest i).seed;
           boot_seed = (stops.rest i).boot_seed;
+          marks = (stops.rest i).marks;
           ledger = entered i;
           docket = stops.ended i;
           tracker = stops.halted i;
@@ -250,6 +272,9 @@ module _ {D E F : Type 0} (senses : Senses D E F) (book : BookState (BenchState 
           current = whole.current;
           ring = ring-emptied plain (Stopped kept) refl;
           clean = clean-stopped plain left cut kept refl;
+          numbered = numbered-none plain.bench.list 0 whole.numbered (omega arith);
+          swept = swept-quiet plain.bench.store plain.ledger.entries (Stopped kept) refl whole.swept;
+          ended = λ user. ended-stopped plain whole user cut kept;
           small = small-stopped plain whole.small left cut kept refl refl refl;
           charged = λ device. stopped-charged plain device (whole.charged device) left cut kept (same-faults device);
         }) in
@@ -284,6 +309,7 @@ module _ {D E F : Type 0} (senses : Senses D E F) (book : BookState (BenchState 
         opened = (restarts.rest i).opened;
         seed = (restarts.rest i).seed;
         boot_seed = restarts.seeded i;
+        marks = (restarts.rest i).marks;
         ledger = (restarts.entered ∙ ap {A = LedgerState}
             (λ l. record l { entries = l.entries ++ Restarted (restarts.boot + 1) level ∷ [] })
             restarts.is_reserved) i;
@@ -310,6 +336,10 @@ module _ {D E F : Type 0} (senses : Senses D E F) (book : BookState (BenchState 
           current = whole.current;
           ring = ring-entered plain (Restarted (book.tracker.boot + 1) level) refl refl whole.ring;
           clean = clean-restarted plain plain.bench level whole refl;
+          numbered = whole.numbered;
+          swept = swept-quiet plain.bench.store plain.ledger.entries (Restarted (book.tracker.boot + 1) level) refl
+              whole.swept;
+          ended = λ user. ended-restarted plain whole user level;
           small = small-restarted plain whole.small plain.bench level refl;
           charged = λ device. restarted-charged plain device (whole.charged device) plain.bench level refl;
         }) in

@@ -1,9 +1,9 @@
 -- What directories name: every tree that a stop can leave names live blobs alone, and what an operation makes a user's
 -- directories name in the user's own world it makes them name on the disk.
-use Rattle.std.proofs.Common.{◌≡◌, inl, ℕ, not, true, false, cond, List, [], ◌∷◌, length, refl, sym, ap, ◌∙◌}
+use Rattle.std.proofs.Common.{◌≡◌, ◌⊎◌, inl, inr, ℕ, not, true, false, cond, List, [], ◌∷◌, length, refl, sym, ap, ◌∙◌}
 use Rattle.std.proofs.Common.{subst}
 use Rattle.std.proofs.lemmas.Bool.{eqb-true}
-use Rattle.std.specs.Prelude.{◌==◌, Bool, Option, Some, None, is_some}
+use Rattle.std.specs.Prelude.{◌==◌, Bool, Option, Some, None, is_some, Contains}
 use Rattle.std.specs.FinMap as map
 use Rattle.tree_model.specs.declared.blobs.Blob.{Blob}
 use Rattle.tree_model.specs.declared.files.FileName.{FileName}
@@ -11,7 +11,7 @@ use Rattle.tree_model.specs.declared.files.FileName.TheVariants.{Blob as BlobFil
 use Rattle.tree_model.specs.declared.sites.LocalOp.{LocalOp}
 use Rattle.tree_model.specs.declared.sites.Site.{Site}
 use Rattle.tree_model.specs.Dir.{Files}
-use Rattle.tree_model.specs.Disk.{view, filled, IsImage}
+use Rattle.tree_model.specs.Disk.{Disk, view, filled, IsImage}
 use Rattle.tree_model.specs.Held.{Held, held_in, blob_in, or_else}
 use Rattle.tree_model.specs.Named.{named_at, PartNames}
 use Rattle.tree_model.specs.Parts.{Part, part_of, standing, after_local}
@@ -24,7 +24,7 @@ use Rattle.blob_custody.specs.Custody.{IsLeft}
 use Rattle.blob_custody.specs.Steps.{NamesLive, Renames}
 use Rattle.blob_custody.proofs.Left.{view-left}
 use Rattle.user_world.specs.Meaning.{Meaning, PartStands, StandsFor}
-use Rattle.user_world.specs.OwnWorlds.{IsOwnImage}
+use Rattle.user_world.specs.OwnWorlds.{IsOwnImage, own_view}
 use Rattle.user_world.specs.Worlds.{Owned, ops_of, steps_of}
 use Rattle.user_world.specs.Timelines.{Timeline, own_of, world_of, OwnWorldsStand}
 use Rattle.user_world.proofs.Timelines.{view-shown}
@@ -36,8 +36,8 @@ use Rattle.key_directory.specs.Opens.{opens, opens_shape, bytes_at}
 use Rattle.key_directory.specs.Shape.{length_fault, first_fault, tests, shape_unless, form_of, fault_if}
 use Rattle.key_directory.specs.Vaults.{Vault, OpensAt, secret_at, sealed}
 use Rattle.key_directory.proofs.Apart.{known-there, part-owns, names-apart}
-use Rattle.task_turns.specs.Names.{Gains}
-use Rattle.vold_book.specs.State.{Plain, tried_in, vault_of}
+use Rattle.task_turns.specs.Names.{Gains, IsRemoval}
+use Rattle.vold_book.specs.State.{Plain, machine_of, tried_in, timeline, vault_of}
 use Rattle.vold_book.specs.Whole.{Whole}
 
 module _ (book : Plain) (whole : Whole book) where
@@ -79,24 +79,60 @@ own-image user (owned ∷ rest) tree left is =
     (λ differ. subst (λ part. IsOwnImage part (steps_of user rest) (part_of left user))
     (after-theirs tree is.0 owned.user user owned.step.op differ) later)
 
+-- in the view the user's directories name all that they named but the drops, which they named and no longer name
+pub record Loses (disk : Disk) (user : ℕ) (op : LocalOp) (drops : List Blob) : Type 0 where
+  pub lost : (blob : Blob) → PartNames (part_of (view disk) user) blob
+      → PartNames (after_local (part_of (view disk) user) op) blob ⊎ Contains drops blob
+  pub dropped : (blob : Blob) → Contains drops blob → PartNames (part_of (view disk) user) blob
+  pub unnamed : (blob : Blob) → Contains drops blob → ¬ (PartNames (after_local (part_of (view disk) user) op) blob)
+
 module _ (meaning : Meaning) (line : Timeline) (user : ℕ) (stands : OwnWorldsStand meaning line) where
   image-own : (left : Tree) → IsImage line.disk.stable line.disk.pending left
       → IsOwnImage (own_of user line).stable (own_of user line).pending (part_of left user)
   image-own left is = own-image user (world_of line).pending line.disk.stable left
       (subst (λ ops. IsImage line.disk.stable ops left) (ap (λ d. d.pending) stands.shows.is_disk) is)
 
-  -- an operation that gains these blobs in the user's world gains them on the disk, and drops none
-  pub renames-gained : (op : LocalOp) (gains : List Blob) → Gains (own_of user line) op gains
-      → Renames line.disk user op gains []
-  renames-gained op gains has =
+  -- an operation that gains these blobs in the user's world gains them on the disk, and drops those that it loses
+  -- there
+  pub renames-gained : (op : LocalOp) (gains drops : List Blob) → Gains (own_of user line) op gains
+      → Loses line.disk user op drops
+      → Renames line.disk user op gains drops
+  renames-gained op gains drops has loses =
       let same = view-shown user (world_of line) line stands.shows in record {
         gained = λ left fill blob is names. has.gained (part_of left user) fill blob (image-own left is) names;
         named = λ blob gained. subst (λ part. PartNames (after_local part op) blob) same (has.named blob gained);
-        lost = λ blob names. inl (subst (λ part. PartNames (after_local part op) blob) same
-            (has.kept blob (subst (λ part. PartNames part blob) (sym same) names)));
+        lost = loses.lost;
+        dropped = loses.dropped;
+        unnamed = loses.unnamed;
+      }
+
+  -- one that removes no directory loses none
+  pub loses-none : (op : LocalOp) (gains : List Blob) → Gains (own_of user line) op gains → ¬ (IsRemoval op)
+      → Loses line.disk user op []
+  loses-none op gains has keeps =
+      let same = view-shown user (world_of line) line stands.shows in record {
+        lost = λ blob names.
+            elim (has.kept blob (subst (λ part. PartNames part blob) (sym same) names))
+            as (λ _. PartNames (after_local (part_of (view line.disk) user) op) blob ⊎ Contains [] blob) [
+              | inl still ↦ inl (subst (λ part. PartNames (after_local part op) blob) same still)
+              | inr removal ↦ absurd (keeps removal)
+            ];
         dropped = λ blob none. absurd (Contains-none blob none);
         unnamed = λ blob none. absurd (Contains-none blob none);
       }
+
+-- in the view the user's directories name what they named in the user's own world
+pub keeps-all : (book : Plain) → Whole book → (user : ℕ) (op : LocalOp)
+    → ((blob : Blob) → PartNames (own_view (own_of user (timeline book.bench.disk (machine_of book)))) blob
+    → PartNames (after_local (own_view (own_of user (timeline book.bench.disk (machine_of book)))) op) blob)
+    → Loses book.bench.disk user op []
+keeps-all book whole user op keeps =
+    let same = view-shown user _ (timeline book.bench.disk (machine_of book)) whole.worlds.shows in record {
+      lost = λ blob names. inl (subst (λ part. PartNames (after_local part op) blob) same
+          (keeps blob (subst (λ part. PartNames part blob) (sym same) names)));
+      dropped = λ blob none. absurd (Contains-none blob none);
+      unnamed = λ blob none. absurd (Contains-none blob none);
+    }
 
 -- a directory that opens has passed the tests of its shape, so a blob that it names has 32 bytes
 abbrev AllPass : List (Option ShapeFault) → Type 0

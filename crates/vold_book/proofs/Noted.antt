@@ -24,6 +24,7 @@ use Rattle.vold_book.specs.Entries.{changed_entry, tried_with}
 use Rattle.vold_book.specs.State.{Plain, machine_of, tried_in, timeline, ground_of, vault_of}
 use Rattle.vold_book.specs.Tasks.{scene_of}
 use Rattle.vold_book.proofs.Moves.{same-tried}
+use Rattle.deferred_delete.specs.declared.items.Item.{Item}
 
 module _ (user : ℕ) (scene : Scene) where
   noting-extends : (note : Option LocalChange) (other : ℕ)
@@ -106,12 +107,12 @@ module _ (book : Plain) (user number : ℕ) (began : BeganCommand)
       additions_of book.seed other (record { boot = machine.boot; index = running.index })
       (map.get (fold_changes machine.log) other) (local_of (change_of user change))))) (sym at)
 
-  pub noted-vault : (note : Option LocalChange)
+  pub noted-vault : (due : Option Item) (note : Option LocalChange)
       → vault_of (tried_with book.seed machine (tried_in book) (changed_entry number user note)) book.seed
       book.bench.store
-      ≡ noting user (scene_of user (ground_of book) began) note
-  noted-vault None = refl
-  noted-vault (Some change) = ap (λ tried. vault_of tried book.seed book.bench.store) (fun_ext _ _ (λ other.
+      ≡ noting user (scene_of user (ground_of book) began due) note
+  noted-vault due None = refl
+  noted-vault due (Some change) = ap (λ tried. vault_of tried book.seed book.bench.store) (fun_ext _ _ (λ other.
       ap (with_additions (tried_in book other))
       (sym (adds-same change other
       ∙ ap (λ owner. if_of other (Some owner) (added_by book.seed other machine number (change_of user change)))

@@ -9,6 +9,7 @@ use Rattle.journal_model.specs.declared.commands.Actor.{Actor}
 use Rattle.journal_model.specs.declared.commands.Command.{Command}
 use Rattle.journal_model.specs.declared.entries.Entry.{Entry}
 use Rattle.journal_model.specs.declared.entries.Entry.TheVariants.{Began, Changed, Synced, Installed, Evicted}
+use Rattle.journal_model.specs.declared.entries.Entry.TheVariants.{Swept}
 use Rattle.journal_model.specs.declared.entries.Entry.TheVariants.{Stopped, Restarted, Replied}
 use Rattle.journal_model.specs.Machine.{Machine, Running as BeganCommand, begun_by, count_after, begun_from}
 use Rattle.journal_model.specs.Machine.{number_begun, numbers_begun}
@@ -37,6 +38,9 @@ quiet-installed user class = record { number = refl; given = λ cs. tt; count = 
 pub quiet-evicted : (user : ℕ) (class : _) → IsQuiet (Evicted user class)
 quiet-evicted user class = record { number = refl; given = λ cs. tt; count = λ a n. refl }
 
+pub quiet-swept : (blob : _) → IsQuiet (Swept blob)
+quiet-swept blob = record { number = refl; given = λ cs. tt; count = λ a n. refl }
+
 pub quiet-stopped : (kept : ℕ) → IsQuiet (Stopped kept)
 quiet-stopped kept = record { number = refl; given = λ cs. tt; count = λ a n. refl }
 
@@ -55,6 +59,7 @@ given-push commands command (Changed n c) given = tt
 given-push commands command Synced given = tt
 given-push commands command (Installed user class) given = tt
 given-push commands command (Evicted user class) given = tt
+given-push commands command (Swept blob) given = tt
 given-push commands command (Stopped kept) given = tt
 given-push commands command (Restarted boot level) given = tt
 given-push commands command (Replied n r) given = tt
@@ -122,6 +127,7 @@ counted actor count (Changed n c) = omega arith
 counted actor count Synced = omega arith
 counted actor count (Installed user class) = omega arith
 counted actor count (Evicted user class) = omega arith
+counted actor count (Swept blob) = omega arith
 counted actor count (Stopped kept) = omega arith
 counted actor count (Restarted boot level) = omega arith
 counted actor count (Replied n r) = omega arith

@@ -14,7 +14,8 @@ use Rattle.vold_book.specs.declared.tasks.Running.{Running}
 use Rattle.vold_book.specs.declared.tasks.Task.{Task}
 use Rattle.vold_book.specs.State.{Plain}
 use Rattle.vold_book.specs.Tasks.{lists_with}
-use Rattle.vold_book.specs.Turns.{begun_places, begun_list, FirstTask, start_in, facts_in}
+use Rattle.vold_book.specs.Turns.{begun_places, begun_list, begun_marks, FirstTask, start_in, facts_in}
+use Rattle.vold_book.specs.Owed.{nothing_owed}
 
 -- a recovery knows nothing of the tree as it begins, and nothing is listed then
 abbrev pub begun_seen : Task → Seen → Seen
@@ -32,15 +33,16 @@ pub record Beginning : Type 0 where
 pub record IsBeginning (book : Plain) (actor : Actor) (begins : Beginning) : Type 0 where
   pub queued : map.get book.docket.waiting actor ≡ Some (begins.number ∷ begins.numbers)
   pub given : slice_get book.docket.commands begins.number ≡ Some begins.command
-  pub first : FirstTask begins.command (start_in book.bench.places book actor begins.command)
+  pub first : FirstTask begins.command (start_in book.bench.places book actor)
       (refusal_of begins.command (facts_in book.bench.places book begins.command)) begins.task
 
 abbrev pub work_of : Beginning → Running
-work_of begins = record { number = begins.number; task = begins.task }
+work_of begins = record { number = begins.number; task = begins.task; owed = nothing_owed }
 
 abbrev pub begun_plain : Plain → Actor → Beginning → Plain
 begun_plain book actor begins = record book {
   bench = begun_seen begins.task book.bench;
+  marks = begun_marks begins.task book.marks;
   ledger = record book.ledger {
     entries = book.ledger.entries ++ Began begins.number actor begins.command ∷ [];
   };

@@ -1,24 +1,22 @@
 -- What a user's command does next, with its jobs done, shows what it has to.
-use Rattle.std.proofs.Common.{◌≡◌, ◌≢◌, ℕ, List, [], ◌∷◌, refl, sym, ap, ◌∙◌, subst}
-use Rattle.std.proofs.lemmas.Option.{none-some}
-use Rattle.std.specs.Prelude.{Option, Some, None, is_some, unwrap_or}
+use Rattle.std.proofs.Common.{◌≡◌, ℕ, true, List, [], ◌∷◌, refl, sym, ap, ◌∙◌, subst}
+use Rattle.std.specs.Prelude.{Option, Some, None, is_some, IfSome, unwrap_or}
 use Rattle.std.specs.FinMap as map
+use Rattle.tree_model.specs.declared.blobs.Blob.{Blob}
 use Rattle.tree_model.specs.declared.sites.Site.{Site}
 use Rattle.tree_model.specs.declared.sites.Site.TheVariants.{Temp}
 use Rattle.tree_model.specs.Disk.{view}
-use Rattle.tree_model.specs.Named.{PartNames}
+use Rattle.tree_model.specs.Named.{PartNames, IsNamed}
 use Rattle.tree_model.specs.Parts.{Part, part_of}
 use Rattle.tree_model.specs.Sites.{place_of}
 use Rattle.tree_model.specs.Tree.{Tree}
+use Rattle.deferred_delete.specs.declared.items.Item.{Item}
 use Rattle.journal_model.specs.declared.commands.Actor.{Actor}
-use Rattle.journal_model.specs.declared.commands.Actor.TheVariants.{Boot}
-use Rattle.journal_model.specs.declared.phase.Phase.{Phase}
-use Rattle.journal_model.specs.declared.phase.Phase.TheVariants.{Up, Down, Halted}
-use Rattle.journal_model.specs.Actor.{actor_cmp}
 use Rattle.blob_custody.proofs.Left.{view-left}
+use Rattle.user_world.specs.Facts.{Holds, Durable}
 use Rattle.user_world.specs.OwnWorlds.{OwnWorld, own_view}
 use Rattle.user_world.specs.Timelines.{own_of}
-use Rattle.user_world.proofs.Timelines.{view-shown}
+use Rattle.user_world.proofs.Timelines.{view-shown, durable-held}
 use Rattle.step_core.specs.Table.{NamedPlaces}
 use Rattle.step_core.specs.declared.jobs.Job.{Job}
 use Rattle.step_core.specs.Jobs.{output_of}
@@ -27,22 +25,27 @@ use Rattle.task_turns.specs.declared.next.Next.{Next}
 use Rattle.task_turns.specs.declared.next.Next.TheVariants.{Work as WorkNext}
 use Rattle.task_turns.specs.Turns.{seen_of, TurnShows}
 use Rattle.bench.specs.Bench.{KnowsPlaces}
-use Rattle.user_tasks.specs.Clearing.{IsNextToClear, Finds}
+use Rattle.user_tasks.specs.declared.looks.Looks.{Looks}
 use Rattle.user_tasks.specs.declared.tasks.UserTask.{UserTask}
+use Rattle.user_tasks.specs.Looks.{IsNextToClear, Finds}
 use Rattle.user_tasks.specs.Tasks.{tasks, rest_of, user_of, UserTurns}
 use Rattle.vold_book.specs.declared.plans.Planned.{Planned}
 use Rattle.vold_book.specs.declared.tasks.Running.{Running}
+use Rattle.vold_book.specs.declared.tasks.Task.{Task}
 use Rattle.vold_book.specs.declared.tasks.Task.TheVariants.{User as Using}
+use Rattle.vold_book.specs.Knowing.{IsTold}
+use Rattle.vold_book.specs.Owed.{Owed, due_of}
 use Rattle.vold_book.specs.Plans.{next_of, Works, PlansUser}
 use Rattle.vold_book.specs.State.{Plain, Ground, machine_of, ground_of}
 use Rattle.vold_book.specs.Steps.{IsPlanned, task_now}
 use Rattle.vold_book.specs.Sweeping.{IsNextSite}
 use Rattle.vold_book.specs.Tasks.{TaskStands, RunsOn, Worked, Plans, scene_of}
-use Rattle.vold_book.specs.Whole.{PhaseStands, Whole}
+use Rattle.vold_book.specs.Whole.{Whole}
+use Rattle.vold_book.proofs.DueItems.{due-listed}
 use Rattle.vold_book.proofs.HeldBlobs.{held-has}
 use Rattle.vold_book.proofs.RecoveryPlans.{none-there}
 use Rattle.vold_book.proofs.SlotsToTry.{sound-share}
-use Rattle.vold_book.proofs.UserTurns.{known}
+use Rattle.vold_book.proofs.UserRuns.{UserRuns, runs-now, known, marked}
 use Rattle.vold_book.proofs.Worked.{heard-stands}
 
 -- what the known places have in the way is what the user's part of the view has
@@ -64,22 +67,16 @@ next-to-clear places tree user part knows is = by
       λ other. gone Temp (next.2 other),
     )
 
--- where an actor other than the boot's runs something, the machine is up
-pub runs-up : (book : Plain) (actor : Actor) (it : Running) → map.get book.docket.running actor ≡ Some it
-    → (phase : Phase) → PhaseStands phase book (machine_of book) → actor ≢ Boot → phase ≡ Up
-runs-up book actor it runs Up stands other = refl
-runs-up book actor it runs Down stands other = absurd (other (stands.1 actor it runs))
-runs-up book actor it runs Halted stands other =
-    absurd (none-some it (sym (map.get-empty actor_cmp actor) ∙ ap (λ m. map.get m actor) (sym stands.2) ∙ runs))
+module _ (book : Plain) (whole : Whole book) (actor : Actor) (number : ℕ) (task : UserTask) (owed : Owed)
+    (at : map.get book.docket.running actor ≡ Some (record { number = number; task = Using task; owed = owed })) where
+  abbrev it : Running
+  it = record { number = number; task = Using task; owed = owed }
 
-module _ (book : Plain) (whole : Whole book) (actor : Actor) (number : ℕ) (task : UserTask)
-    (runs : map.get book.docket.running actor ≡ Some (record { number = number; task = Using task })) where
-  on : RunsOn (ground_of book) (machine_of book) actor (record { number = number; task = Using task })
-  on = whole.run actor (record { number = number; task = Using task }) runs
+  on : RunsOn (ground_of book) (machine_of book) actor it
+  on = whole.run actor it at
 
-  knows : KnowsPlaces book.bench.places (view book.bench.disk)
-  knows = (known book actor number task whole on
-      (λ phase stands is other. runs-up book actor _ runs phase stands other)).there
+  runs : UserRuns book
+  runs = runs-now book whole actor it task at on refl
 
   abbrev ground : Ground
   ground = ground_of book
@@ -90,40 +87,55 @@ module _ (book : Plain) (whole : Whole book) (actor : Actor) (number : ℕ) (tas
   shown : own_view own ≡ part_of (view book.bench.disk) (user_of task)
   shown = view-shown (user_of task) _ ground.line whole.worlds.shows
 
-  -- what the task finds beside the facts that it rests on: no directory names what it holds
-  finds : (site : Option Site) → IsNextSite book.bench.places (user_of task) site
-      → Finds (own_view own) (rest_of task).held site
-  finds site first = record {
-    clear = next-to-clear book.bench.places (view book.bench.disk) (user_of task) _ knows shown site first;
-    unnamed = λ blob held names.
-        (whole.clean.held_gone blob (held-has book.docket.running blob (record {
-          actor = actor;
-          it = record { number = number; task = Using task };
-          runs = runs;
-          holds = held;
-        }))).gone (view book.bench.disk) (view-left book.bench.disk)
-        (record { user = user_of task; there = subst (λ part. PartNames part blob) shown names });
-  }
+  named : (blob : Blob) → PartNames (own_view own) blob → IsNamed (view book.bench.disk) blob
+  named blob names = record { user = user_of task; there = subst (λ part. PartNames part blob) shown names }
 
-  -- what the task is after some of its jobs, which stands in the same ground and holds the same
-  record Stands (now : UserTask) : Type 0 where
-    rests : TaskStands ground (Using now) on.began
-    held : (rest_of now).held ≡ (rest_of task).held
-    same : user_of now ≡ user_of task
+  -- what a turn is told is so
+  module _ (looks : Looks) (told : IsTold book (user_of task) owed looks) where
+    durable : looks.durable ≡ true → Holds Durable own
+    durable is = let marks = told.durable is in durable-held (user_of task) _ ground.line whole.worlds.shows
+        (marked book whole runs (user_of task) marks.0 marks.1)
 
-  module _ (site : Option Site) (first : IsNextSite book.bench.places (user_of task) site) where
+    spared : (due : Option Item) → due_of book.bench.list owed ≡ due
+        → IfSome due (λ item. ¬ (PartNames (own_view own) item.blob))
+    spared None is = tt
+    spared (Some item) is = λ names. whole.clean.unnamed item
+        (due-listed book.bench.list whole.numbered owed item is).listed (named item.blob names)
+
+    finds : Finds (scene_of (user_of task) ground on.began (due_of book.bench.list owed)) (rest_of task).held looks
+    finds = record {
+      clear = next-to-clear book.bench.places (view book.bench.disk) (user_of task) _ (known book whole runs).there
+          shown looks.in_the_way told.in_the_way;
+      unnamed = λ blob held names. (whole.clean.held_gone blob (held-has book.docket.running blob
+          (record { actor = actor; it = it; runs = at; holds = held }))).gone (view book.bench.disk)
+          (view-left book.bench.disk) (named blob names);
+      durable = durable;
+      due = sym told.due;
+      spared = spared looks.due (sym told.due);
+    }
+
+    -- what the task is after some of its jobs, which stands in the same ground and holds the same
+    record Stands (now : UserTask) : Type 0 where
+      rests : TaskStands ground (Using now) on.began
+      held : (rest_of now).held ≡ (rest_of task).held
+      same : user_of now ≡ user_of task
+
+    abbrev due : Option Item
+    due = due_of book.bench.list owed
+
     -- it shows what it has to
-    shows-next : (now : UserTask) (next : Next) → Stands now → UserTurns now site next
-        → TurnShows (seen_of tasks now) (scene_of (user_of now) ground on.began) next
+    shows-next : (now : UserTask) (next : Next) → Stands now → UserTurns now looks next
+        → TurnShows (seen_of tasks now) (scene_of (user_of now) ground on.began due) next
     shows-next now next stands turns =
-        turns (scene_of (user_of now) ground on.began) (sound-share book whole (user_of now))
-        (subst (λ user. Finds (own_view (own_of user ground.line)) (rest_of now).held site) (sym stands.same)
-        (subst (λ held. Finds (own_view own) held site) (sym stands.held) (finds site first))) stands.rests
+        turns (scene_of (user_of now) ground on.began due) (sound-share book whole (user_of now))
+        (subst (λ user. Finds (scene_of user ground on.began due) (rest_of now).held looks) (sym stands.same)
+        (subst (λ held. Finds (scene_of (user_of task) ground on.began due) held looks) (sym stands.held) finds))
+        stands.rests
 
     works-on : (now : UserTask) (job : Job) → Stands now
-        → TurnShows (seen_of tasks now) (scene_of (user_of now) ground on.began) (WorkNext job)
+        → TurnShows (seen_of tasks now) (scene_of (user_of now) ground on.began due) (WorkNext job)
         → Stands (tasks.after now (Output (output_of job.input)))
-    works-on now job stands shows = let heard = heard-stands ground actor on.began now job stands.rests shows in
+    works-on now job stands shows = let heard = heard-stands ground actor on.began due now job stands.rests shows in
         record {
           rests = heard.stands;
           held = shows.held ∙ stands.held;
@@ -131,8 +143,8 @@ module _ (book : Plain) (whole : Whole book) (actor : Actor) (number : ℕ) (tas
         }
 
     -- so do its jobs
-    works : (jobs : List Job) (now last : UserTask) → Stands now → Works now site last jobs
-        → Worked ground on.began (Using now) (Using last) jobs × Stands last
+    works : (jobs : List Job) (now last : UserTask) → Stands now → Works now looks last jobs
+        → Worked ground on.began due (Using now) (Using last) jobs × Stands last
     works [] now last stands is = (ap Using is, subst Stands (sym is) stands)
     works (job ∷ jobs) now last stands (asks, rest) =
         let shows = shows-next now (WorkNext job) stands asks in
@@ -140,15 +152,13 @@ module _ (book : Plain) (whole : Whole book) (actor : Actor) (number : ℕ) (tas
         rest
         in ((shows, after.0), after.1)
 
-    planned-by : (planned : Planned) → PlansUser task site planned
-        → Plans book actor (record { number = number; task = Using task }) (task_now planned.task (Using task))
-        (next_of planned.plan)
+    planned-by : (planned : Planned) → PlansUser task looks planned
+        → Plans book actor it (task_now planned.task (Using task)) (next_of planned.plan)
     planned-by planned plans =
         let last = unwrap_or planned.task task in
         let done = works plans.jobs task last (record { rests = on.stands; held = refl; same = refl }) plans.works in
-        subst (λ now. Plans book actor (record { number = number; task = Using task }) now (next_of planned.plan))
-        (now-is planned.task) (record {
-          runs = runs;
+        subst (λ now. Plans book actor it now (next_of planned.plan)) (now-is planned.task) (record {
+          runs = at;
           on = on;
           jobs = plans.jobs;
           worked = done.0;
@@ -159,12 +169,16 @@ module _ (book : Plain) (whole : Whole book) (actor : Actor) (number : ℕ) (tas
         now-is None = refl
         now-is (Some now) = refl
 
-pub planned-user : (book : Plain) (whole : Whole book) (actor : Actor) (it : Running) (task : UserTask)
-    → map.get book.docket.running actor ≡ Some it → it.task ≡ Using task → (site : Option Site) (planned : Planned)
-    → IsNextSite book.bench.places (user_of task) site → PlansUser task site planned → IsPlanned book actor planned
-planned-user book whole actor it task runs is site planned first plans = record {
-  it = it;
-  plans = subst (λ t. map.get book.docket.running actor ≡ Some (record { number = it.number; task = t })
-      → Plans book actor (record { number = it.number; task = t }) (task_now planned.task t) (next_of planned.plan))
-      (sym is) (λ at. planned-by book whole actor it.number task at site first planned plans) runs;
-}
+module _ (book : Plain) (whole : Whole book) (actor : Actor) (it : Running) (task : UserTask) (looks : Looks)
+    (planned : Planned) where
+  abbrev with_task : Task → Running
+  with_task task = record { number = it.number; task = task; owed = it.owed }
+
+  pub planned-user : map.get book.docket.running actor ≡ Some it → it.task ≡ Using task
+      → IsTold book (user_of task) it.owed looks → PlansUser task looks planned → IsPlanned book actor planned
+  planned-user runs is told plans = record {
+    it = it;
+    plans = subst (λ t. map.get book.docket.running actor ≡ Some (with_task t)
+        → Plans book actor (with_task t) (task_now planned.task t) (next_of planned.plan))
+        (sym is) (λ at. planned-by book whole actor it.number task it.owed at looks told planned plans) runs;
+  }

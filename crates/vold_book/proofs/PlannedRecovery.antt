@@ -16,7 +16,7 @@ use Rattle.vold_book.specs.Parts.{changes_made}
 use Rattle.vold_book.specs.Plans.{IsSettledNext}
 use Rattle.vold_book.specs.Recovery.{max_places, is_nothing, RecoveryShows, RecoveryTurns}
 use Rattle.vold_book.specs.State.{Plain, machine_of, ground_of}
-use Rattle.vold_book.specs.Tasks.{TaskStands, TaskShows, RunsOn, Plans}
+use Rattle.vold_book.specs.Tasks.{TaskStands, TaskShows, RunsOn, Plans, due_to}
 use Rattle.vold_book.specs.Whole.{Whole}
 
 module _ (book : Plain) (whole : Whole book) where
@@ -76,5 +76,6 @@ module _ (book : Plain) (whole : Whole book) where
       on = on;
       jobs = [];
       worked = refl;
-      shows = subst (λ task. TaskShows (ground_of book) on.began task next) (sym is) (shows next turns);
+      shows = subst (λ task. TaskShows (ground_of book) on.began (due_to book it) task next) (sym is)
+          (shows next turns);
     }

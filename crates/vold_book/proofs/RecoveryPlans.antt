@@ -38,8 +38,7 @@ use Rattle.keystore_model.proofs.Elements.{Contains-none, Contains-first, Contai
 use Rattle.deferred_delete.specs.Deferral.{Deferral, noted}
 use Rattle.blob_custody.proofs.Left.{view-op}
 use Rattle.blob_custody.proofs.Listed.{pushed-listed}
-use Rattle.blob_custody.proofs.Names.{absent, not-both, same-names, names-new}
-use Rattle.blob_custody.proofs.Renamings.{whole-remove}
+use Rattle.blob_custody.proofs.Names.{absent, same-names}
 use Rattle.user_world.specs.Meaning.{Meaning, PartStands}
 use Rattle.user_world.specs.OwnWorlds.{quiet, own_view, own_record}
 use Rattle.user_world.specs.Timelines.{Timeline, own_of, OwnWorldsStand}
@@ -53,7 +52,8 @@ use Rattle.task_turns.specs.declared.calls.Call.TheVariants.{Op as OpCall, Sync,
 use Rattle.task_turns.specs.declared.next.Next.{Next}
 use Rattle.task_turns.specs.declared.next.Next.TheVariants.{Call as CallNext}
 use Rattle.task_turns.specs.Names.{Gains}
-use Rattle.bench.specs.Bench.{KnowsPlaces, AreUnnamed, Nothing, Unnamed, Named, named_in, listed}
+use Rattle.fixate_task.proofs.Fixing.{removal-gains as slot-gains}
+use Rattle.bench.specs.Bench.{KnowsPlaces, AreUnnamed, Nothing, Unnamed, Named, named_in, named_here, listed, dropped}
 use Rattle.bench.proofs.Known.{names-there}
 use Rattle.vold_book.specs.declared.recovery.Recovery.{Recovery}
 use Rattle.vold_book.specs.declared.recovery.Recovery.TheVariants.{Sweeping, Reading, Settled}
@@ -149,31 +149,31 @@ module _ (ground : Ground) (stands : OwnWorldsStand (sealed ground.vault) ground
     leads = tt;
   }
 
+  -- they go on naming what they named
+  removal-keeps : (place : Place) → IsLeft ground.places place → (blob : Blob)
+      → PartNames (own_view (own_of (user_of place) ground.line)) blob
+      → PartNames (after_local (own_view (own_of (user_of place) ground.line)) (RemoveDir (site_of place))) blob
+  removal-keeps (De user) left blob names = absurd left
+  removal-keeps (Ce user slot) left blob names = absurd (absent (own_view (own_of user ground.line) DeSite)
+      (absent-view meaning user (own_of user ground.line) (stands.images user) (ownerless user left))
+      names.present)
+  removal-keeps (Temp user) left blob names = same-names (own_view (own_of user ground.line))
+      (after_local (own_view (own_of user ground.line)) (RemoveDir TempSite)) blob
+      (frame (own_view (own_of user ground.line)) Same (RemoveDir TempSite) DeSite refl)
+      (λ slot. frame (own_view (own_of user ground.line)) Same (RemoveDir TempSite) (CeSite slot) refl) names
+
   -- none of the user's directories names another blob then
   removal-gains : (place : Place) → IsLeft ground.places place
       → Gains (own_of (user_of place) ground.line) (RemoveDir (site_of place)) []
   removal-gains (De user) left = absurd left
-  removal-gains (Ce user slot) left = record {
-    gained = λ part fill blob is names. elim (names-new part slot None blob
-        (subst (λ op. PartNames (after_local part op) blob) (whole-remove (CeSite slot) fill) names)) [
-          | inl was ↦ inl was
-          | inr now ↦ absurd (not-both None blob refl now)
-        ];
-    named = λ blob none. absurd (Contains-none blob none);
-    kept = λ blob names. absurd (absent (own_view (own_of user ground.line) DeSite)
-        (absent-view meaning user (own_of user ground.line) (stands.images user) (ownerless user left))
-        names.present);
-  }
+  removal-gains (Ce user slot) left = slot-gains (own_of user ground.line) slot
   removal-gains (Temp user) left = record {
     gained = λ part fill blob is names. inl (same-names
         (after_local part (filled_local fill (RemoveDir TempSite))) part blob
         (sym (frame part fill (RemoveDir TempSite) DeSite refl))
         (λ slot. sym (frame part fill (RemoveDir TempSite) (CeSite slot) refl)) names);
     named = λ blob none. absurd (Contains-none blob none);
-    kept = λ blob names. same-names (own_view (own_of user ground.line))
-        (after_local (own_view (own_of user ground.line)) (RemoveDir TempSite)) blob
-        (frame (own_view (own_of user ground.line)) Same (RemoveDir TempSite) DeSite refl)
-        (λ slot. frame (own_view (own_of user ground.line)) Same (RemoveDir TempSite) (CeSite slot) refl) names;
+    kept = λ blob names. inl (removal-keeps (Temp user) left blob names);
   }
 
   -- the known places stay those of the view
@@ -195,6 +195,14 @@ module _ (ground : Ground) (stands : OwnWorldsStand (sealed ground.vault) ground
             (get-remove_other place_total place_exact (view ground.line.disk) (place_of user site) place differ))
       ])
 
+  -- and it drops none that one of them is known to name
+  removal-lists : (place : Place) → IsLeft ground.places place
+      → dropped ground.places (user_of place) (RemoveDir (site_of place)) ≡ []
+  removal-lists (De user) left = absurd left
+  removal-lists (Ce user slot) left =
+      ap (λ there. cond (is_some there) (named_here ground.places (Ce user slot)) []) left
+  removal-lists (Temp user) left = refl
+
   pub removal-shows : (place : Place) → ground.phase ≡ Down → ground.list.items ≡ [] → IsLeft ground.places place
       → IsSome (map.get ground.places place)
       → SweepShows ground Sweeping (user_of place) (RemoveDir (site_of place)) None
@@ -202,6 +210,10 @@ module _ (ground : Ground) (stands : OwnWorldsStand (sealed ground.vault) ground
     step = removal-step place left there;
     brings = refl;
     gained = removal-gains place left;
+    site = site_of place;
+    removes = refl;
+    keeps = removal-keeps place left;
+    lists = removal-lists place left;
     comes = record {
       rests = (down, (removal-known (user_of place) (site_of place), unlisted));
       falls = omega arith;

@@ -1,14 +1,14 @@
 -- A call of a recovery leaves the Book what it has to be left, whether the device did it or failed.
 use Rattle.std.proofs.Common.{◌≡◌, ◌≢◌, ℕ, ◌+◌, ◌^◌, ◌<◌, List, [], ◌∷◌, length, refl, sym, ap, ◌∙◌, subst}
-use Rattle.std.proofs.Common.{false}
+use Rattle.std.proofs.Common.{true, false, arith}
 use Rattle.std.proofs.lemmas.Option.{same_Some}
-use Rattle.std.specs.Prelude.{Option, Some, None, IsSomeAnd, Ok}
+use Rattle.std.specs.Prelude.{Bool, Option, Some, None, IsSomeAnd, Ok}
 use Rattle.std.specs.FinMap as map
 use Rattle.tree_model.specs.declared.blobs.Blob.{Blob}
-use Rattle.tree_model.specs.declared.sites.LocalOp.TheVariants.{MakeDir, Write, RenameFile}
-use Rattle.tree_model.specs.declared.sites.LocalOp.TheVariants.{RenameDir, RemoveFile, RemoveDir}
+use Rattle.tree_model.specs.declared.sites.LocalOp.{LocalOp}
 use Rattle.tree_model.specs.Disk.{view, with_op}
 use Rattle.tree_model.specs.Sites.{op_of}
+use Rattle.deferred_delete.specs.declared.items.Item.{Item}
 use Rattle.journal_model.specs.declared.commands.Actor.{Actor}
 use Rattle.journal_model.specs.declared.commands.Actor.TheVariants.{Boot}
 use Rattle.journal_model.specs.declared.entries.Device.{Device}
@@ -26,21 +26,23 @@ use Rattle.task_turns.specs.declared.calls.Answer.TheVariants.{Done}
 use Rattle.task_turns.specs.declared.calls.Call.{Call}
 use Rattle.task_turns.specs.declared.calls.Call.TheVariants.{Op as OpCall, Sync, List as ListCall, Read}
 use Rattle.task_turns.specs.declared.calls.Call.TheVariants.{Generate, Encrypt, Decrypt, Entries, Add, Remove}
+use Rattle.task_turns.specs.declared.calls.Call.TheVariants.{Delete}
 use Rattle.task_turns.specs.declared.next.Next.TheVariants.{Call as CallNext}
 use Rattle.bench.specs.declared.made.Made.{Made}
 use Rattle.bench.specs.declared.made.Made.TheVariants.{Heard, Failed}
-use Rattle.bench.specs.Bench.{Plain as Seen, Fits, Does, IsFailed, IsMade, places_after}
+use Rattle.bench.specs.Bench.{Plain as Seen, Fits, Does, IsFailed, IsMade, places_after, listed_as, dropped}
+use Rattle.bench.proofs.Failures.{failed-leaves}
 use Rattle.vold_book.specs.declared.recovery.Recovery.{Recovery}
 use Rattle.vold_book.specs.declared.recovery.Recovery.TheVariants.{Listing, Sweeping, Reading, Settled, Listed}
 use Rattle.vold_book.specs.declared.tasks.Running.{Running}
 use Rattle.vold_book.specs.declared.tasks.Task.{Task}
 use Rattle.vold_book.specs.declared.tasks.Task.TheVariants.{Recovery as Recovers}
+use Rattle.vold_book.specs.Owed.{Owed}
 use Rattle.vold_book.specs.Parts.{TrackerState, Agrees, noted}
-use Rattle.vold_book.specs.Recovery.{RecoveryRests, RecoveryCalls, RecoveryShows, recovery_after}
+use Rattle.vold_book.specs.Recovery.{RecoveryRests, RecoveryCalls, RecoveryShows, CountsFew, recovery_after}
 use Rattle.vold_book.specs.State.{Plain, Ground, machine_of, tried_in, timeline, ground_at, ground_of, vault_of}
 use Rattle.vold_book.specs.Tasks.{held_in, HoldsOwn, RunsOn, TaskStands, TaskShows, TaskAfter, TellsFault, Worked}
-use Rattle.vold_book.specs.Tasks.{Plans, HearsMade}
-use Rattle.vold_book.specs.Turns.{Making}
+use Rattle.vold_book.specs.Tasks.{Plans, HearsMade, HearsFailed, TaskFailed, is_untold, due_to}
 use Rattle.vold_book.specs.Whole.{PhaseStands, Whole}
 use Rattle.vold_book.proofs.StepsMade.{same-line, step-fits, step-told, step-failed, failed-disk, all-changes}
 use Rattle.vold_book.proofs.Moves.{after_of, Moves}
@@ -52,44 +54,44 @@ holds-none : (ground : Ground) (actor : Actor) (held : List Blob) → held ≡ [
 holds-none ground actor held none = subst (HoldsOwn ground actor) (sym none)
     (record { differ = tt; own = λ blob has. absurd (Contains-none blob has) })
 
--- a failed call leaves the entries
-failed-store : (before after : Seen) (call : Call) → IsFailed before after call → after.store ≡ before.store
-failed-store before after (OpCall user (MakeDir site) names) failed = ap (λ b. b.store) failed
-failed-store before after (OpCall user (Write site file bytes) names) failed = ap (λ b. b.store) failed.1
-failed-store before after (OpCall user (RenameFile site from to) names) failed = ap (λ b. b.store) failed
-failed-store before after (OpCall user (RenameDir from to) names) failed = ap (λ b. b.store) failed
-failed-store before after (OpCall user (RemoveFile site file) names) failed = ap (λ b. b.store) failed
-failed-store before after (OpCall user (RemoveDir site) names) failed = ap (λ b. b.store) failed
-failed-store before after Sync failed = ap (λ b. b.store) failed
-failed-store before after ListCall failed = ap (λ b. b.store) failed
-failed-store before after (Read place) failed = ap (λ b. b.store) failed
-failed-store before after (Generate tag app_id) failed = ap (λ b. b.store) failed
-failed-store before after (Encrypt blob app_id nonce key) failed = ap (λ b. b.store) failed
-failed-store before after (Decrypt blob app_id text) failed = ap (λ b. b.store) failed
-failed-store before after Entries failed = ap (λ b. b.store) failed
-failed-store before after (Add user class key) failed = ap (λ b. b.store) failed
-failed-store before after (Remove user class) failed = ap (λ b. b.store) failed
+-- it read no more directories than there can be
+counts-few : (ground : Ground) (recovery : Recovery) → RecoveryRests ground recovery → CountsFew recovery
+counts-few ground Listing rests = tt
+counts-few ground Sweeping rests = tt
+counts-few ground (Reading count) rests = rests.1.2
+counts-few ground Settled rests = tt
+counts-few ground Listed rests = tt
 
--- a recovery that rests may hear of its call
-recovery-hears : (ground : Ground) (recovery : Recovery) (made : Made) → RecoveryRests ground recovery
-    → HearsMade (Recovers recovery) made
-recovery-hears ground recovery (Failed device) rests = tt
-recovery-hears ground Listing (Heard answer) rests = tt
-recovery-hears ground Sweeping (Heard answer) rests = tt
-recovery-hears ground (Reading count) (Heard answer) rests = rests.1.2
-recovery-hears ground Settled (Heard answer) rests = tt
-recovery-hears ground Listed (Heard answer) rests = tt
+-- it may hear of each of its calls, and is told of each that failed
+recovery-hears : (ground : Ground) (recovery : Recovery) (call : Call) (made : Made) → RecoveryRests ground recovery
+    → HearsMade call (Recovers recovery) made
+recovery-hears ground recovery call (Heard answer) rests = counts-few ground recovery rests
+recovery-hears ground recovery call (Failed device) rests = by (is_untold call)
+  where
+    by : (untold : Bool) → HearsFailed untold (Recovers recovery)
+    by true = counts-few ground recovery rests
+    by false = tt
 
-abbrev recovering : ℕ → Recovery → Running
-recovering number recovery = record { number = number; task = Recovers recovery }
+is-told : (ground : Ground) (recovery : Recovery) (call : Call) → RecoveryCalls ground recovery call
+    → is_untold call ≡ false
+is-told ground recovery (Delete item tells) calls = absurd calls
+is-told ground recovery (OpCall owner op names) calls = refl
+is-told ground recovery Sync calls = refl
+is-told ground recovery ListCall calls = refl
+is-told ground recovery (Read place) calls = refl
+is-told ground recovery (Generate tag app_id) calls = refl
+is-told ground recovery (Encrypt blob app_id nonce key) calls = refl
+is-told ground recovery (Decrypt blob app_id text) calls = refl
+is-told ground recovery Entries calls = refl
+is-told ground recovery (Add user class key) calls = refl
+is-told ground recovery (Remove user class) calls = refl
 
--- a call that makes no change, and what the recovery is then
-abbrev making : Recovery → Call → Task → Making
-making recovery call then = record { call = call; change = None; task = Recovers recovery; then = then }
+abbrev recovering : ℕ → Recovery → Owed → Running
+recovering number recovery owed = record { number = number; task = Recovers recovery; owed = owed }
 
-module _ (book : Plain) (actor : Actor) (number : ℕ) (recovery : Recovery) (whole : Whole book)
-    (runs : map.get book.docket.running actor ≡ Some (recovering number recovery))
-    (on : RunsOn (ground_of book) (machine_of book) actor (recovering number recovery)) where
+module _ (book : Plain) (actor : Actor) (number : ℕ) (recovery : Recovery) (owed : Owed) (whole : Whole book)
+    (runs : map.get book.docket.running actor ≡ Some (recovering number recovery owed))
+    (on : RunsOn (ground_of book) (machine_of book) actor (recovering number recovery owed)) where
   abbrev machine : Machine
   machine = machine_of book
 
@@ -120,7 +122,10 @@ module _ (book : Plain) (actor : Actor) (number : ℕ) (recovery : Recovery) (wh
   fits : (call : Call) → RecoveryCalls (ground_of book) recovery call
       → book.bench.list.next + book.bench.list.promised + length book.bench.store.entries < 2 ^ 63
       → Fits book.bench call
-  fits (OpCall owner op names) calls few = step-fits meaning owner line None whole.worlds op calls.step
+  fits (OpCall owner op names) calls few = (
+    step-fits meaning owner line None whole.worlds op calls.step,
+    let none = ap length calls.lists in omega (arith, few, none),
+  )
   fits Sync calls few = tt
   fits ListCall calls few = tt
   fits (Read place) calls few = calls.0
@@ -129,6 +134,7 @@ module _ (book : Plain) (actor : Actor) (number : ℕ) (recovery : Recovery) (wh
   fits (Decrypt blob app_id text) calls few = absurd calls
   fits (Add user class key) calls few = absurd calls
   fits (Remove user class) calls few = absurd calls
+  fits (Delete item tells) calls few = absurd calls
   fits Entries calls few = few
 
   -- whether it makes a change is told rightly: it makes none
@@ -144,6 +150,7 @@ module _ (book : Plain) (actor : Actor) (number : ℕ) (recovery : Recovery) (wh
   told Entries calls = tt
   told (Add user class key) calls = tt
   told (Remove user class) calls = tt
+  told (Delete item tells) calls = tt
 
   same_began : (began : BeganCommand) → map.get machine.running number ≡ Some began
       → on.began.command ≡ began.command
@@ -178,7 +185,8 @@ module _ (book : Plain) (actor : Actor) (number : ℕ) (recovery : Recovery) (wh
     on_machine = λ n differ. refl;
     same_command = same_began;
     others = λ other o differ at. absurd (nobody-else other o differ at);
-    kept = λ blob. subst (λ store. KeepsEntry (ground_of book).vault (vault_of (tried_in book) book.seed store) blob)
+    kept = λ blob needed.
+        subst (λ store. KeepsEntry (ground_of book).vault (vault_of (tried_in book) book.seed store) blob)
         (sym still.store) (λ entry at. at);
     phase = still.phase;
     up = λ up. absurd (not_up up);
@@ -188,12 +196,27 @@ module _ (book : Plain) (actor : Actor) (number : ℕ) (recovery : Recovery) (wh
   -- a call that the device did
   abbrev Done_by : Call → Answer → Seen → Type 0
   Done_by call answer bench = Moves book actor number
-      (after_of book number (making recovery call (Recovers (recovery_after call recovery))) (Heard answer) bench)
+      (after_of book number call None (Recovers (recovery_after call recovery)) (Heard answer) bench)
+
+  -- an operation lists nothing
+  lists-none : (owner : ℕ) (op : LocalOp) → dropped book.bench.places owner op ≡ []
+      → listed_as false book.bench.list (dropped book.bench.places owner op) ≡ book.bench.list
+  lists-none owner op none = ap (listed_as false book.bench.list) none ∙ λ i. record book.bench.list {
+    promised = unpromised i;
+  }
+    where
+      unpromised : book.bench.list.promised + 0 ≡ book.bench.list.promised
+      unpromised = omega arith
 
   made-call : (call : Call) (answer : Answer) (bench : Seen) → RecoveryCalls (ground_of book) recovery call
       → Does book.bench bench call answer → Done_by call answer bench
   made-call (OpCall owner op names) answer bench calls does =
-      subst (λ b. Done_by (OpCall owner op names) answer b) (sym does.1) (still-moves _ _ _ (record {
+      subst (λ b. Done_by (OpCall owner op names) answer b) (sym (does.1 ∙ λ i. record book.bench {
+        disk = with_op book.bench.disk (op_of owner op);
+        tree_counts = bench.tree_counts;
+        places = places_after book.bench.places owner op names;
+        list = lists-none owner op calls.lists i;
+      })) (still-moves _ _ _ (record {
         store = refl;
         agrees = record {
           phase = whole.agrees.phase;
@@ -205,7 +228,15 @@ module _ (book : Plain) (actor : Actor) (number : ℕ) (recovery : Recovery) (wh
             tree_counts = bench.tree_counts;
             places = places_after book.bench.places owner op names;
           }) book.tracker whole.agrees.pending (OpCall owner op names) false (Heard Done)
-              (told (OpCall owner op names) calls) (refl, refl);
+              (told (OpCall owner op names) calls) (
+                refl,
+                λ i. record book.bench {
+                  disk = with_op book.bench.disk (op_of owner op);
+                  tree_counts = bench.tree_counts;
+                  places = places_after book.bench.places owner op names;
+                  list = sym (lists-none owner op calls.lists) i;
+                },
+              );
         };
         worlds = (line-quiet meaning line owner op [] whole.worlds calls.step).stands;
         stands = (on.stands.0, calls.comes.rests);
@@ -235,7 +266,7 @@ module _ (book : Plain) (actor : Actor) (number : ℕ) (recovery : Recovery) (wh
         on_machine = λ n differ. refl;
         same_command = same_began;
         others = λ other o differ at. absurd (nobody-else other o differ at);
-        kept = λ blob entry at. at;
+        kept = λ blob needed entry at. at;
         phase = refl;
         up = λ up. absurd (not_up up);
         durable = λ down durable. refl;
@@ -263,6 +294,7 @@ module _ (book : Plain) (actor : Actor) (number : ℕ) (recovery : Recovery) (wh
   made-call (Decrypt blob app_id text) answer bench calls does = absurd calls
   made-call (Add user class key) answer bench calls does = absurd calls
   made-call (Remove user class) answer bench calls does = absurd calls
+  made-call (Delete item tells) answer bench calls does = absurd calls
   made-call Entries answer bench calls does =
       subst (λ b. Done_by Entries answer b) (sym does.1.2) (still-moves _ _ _ (record {
         store = refl;
@@ -290,16 +322,17 @@ module _ (book : Plain) (actor : Actor) (number : ℕ) (recovery : Recovery) (wh
   failed-worlds (Decrypt blob app_id text) bench calls failed = absurd calls
   failed-worlds (Add user class key) bench calls failed = absurd calls
   failed-worlds (Remove user class) bench calls failed = absurd calls
+  failed-worlds (Delete item tells) bench calls failed = absurd calls
   failed-worlds Entries bench calls failed = unmoved bench (ap (λ b. b.disk) failed)
 
   failed-call : (call : Call) (device : Device) (then : Task) (bench : Seen)
       → RecoveryCalls (ground_of book) recovery call → IsMade book.bench bench call (Ok (Failed device))
       → TellsFault device [] then
-      → Moves book actor number (after_of book number (making recovery call then) (Failed device) bench)
+      → Moves book actor number (after_of book number call None then (Failed device) bench)
   failed-call call device then bench calls made tells =
       let stays = noted-stays false call false book.tracker in
       still-moves bench (noted false call false book.tracker) then (record {
-        store = failed-store book.bench bench call made.1;
+        store = ap (λ b. b.store) (failed-leaves book.bench bench call made.1);
         agrees = record {
           phase = whole.agrees.phase ∙ sym stays.phase;
           boot = whole.agrees.boot ∙ sym stays.boot;
@@ -318,17 +351,19 @@ module _ (book : Plain) (actor : Actor) (number : ℕ) (recovery : Recovery) (wh
   -- a call of the recovery's, by how it went
   by-made : (call : Call) (made : Made) (then : Task) (bench : Seen) → RecoveryCalls (ground_of book) recovery call
       → IsMade book.bench bench call (Ok made) → TaskAfter call made (Recovers recovery) then
-      → Moves book actor number (after_of book number (making recovery call then) made bench)
+      → Moves book actor number (after_of book number call None then made bench)
   by-made call (Heard answer) then bench calls does after =
-      subst (λ t. Moves book actor number (after_of book number (making recovery call t) (Heard answer) bench))
+      subst (λ t. Moves book actor number (after_of book number call None t (Heard answer) bench))
       (sym after) (made-call call answer bench calls does)
-  by-made call (Failed device) then bench calls failed tells = failed-call call device then bench calls failed tells
+  by-made call (Failed device) then bench calls failed after = failed-call call device then bench calls failed
+      (subst (λ untold. TaskFailed untold call device (Recovers recovery) then)
+      (is-told (ground_of book) recovery call calls) after)
 
 -- a recovery asks for no job
-no-job : (ground : Ground) (began : BeganCommand) (recovery : Recovery) (now : Task) (jobs : List Job)
-    → Worked ground began (Recovers recovery) now jobs → now ≡ Recovers recovery
-no-job ground began recovery now [] worked = worked
-no-job ground began recovery now (job ∷ jobs) worked = absurd worked
+no-job : (ground : Ground) (began : BeganCommand) (due : Option Item) (recovery : Recovery) (now : Task)
+    (jobs : List Job) → Worked ground began due (Recovers recovery) now jobs → now ≡ Recovers recovery
+no-job ground began due recovery now [] worked = worked
+no-job ground began due recovery now (job ∷ jobs) worked = absurd worked
 
 -- the same for what a recovery plans
 module _ (book : Plain) (actor : Actor) (it : Running) (recovery : Recovery) (whole : Whole book)
@@ -336,38 +371,38 @@ module _ (book : Plain) (actor : Actor) (it : Running) (recovery : Recovery) (wh
   module _ (now : Task) (call : Call) (change : Option LocalChange)
       (plans : Plans book actor it now (CallNext call change)) where
     same_now : now ≡ Recovers recovery
-    same_now = no-job (ground_of book) plans.on.began recovery now plans.jobs
-        (subst (λ t. Worked (ground_of book) plans.on.began t now plans.jobs) is plans.worked)
+    same_now = no-job (ground_of book) plans.on.began (due_to book it) recovery now plans.jobs
+        (subst (λ t. Worked (ground_of book) plans.on.began (due_to book it) t now plans.jobs) is plans.worked)
 
     shown : RecoveryShows (ground_of book) recovery (CallNext call change)
-    shown = subst (λ t. TaskShows (ground_of book) plans.on.began t (CallNext call change)) same_now plans.shows
+    shown = subst (λ t. TaskShows (ground_of book) plans.on.began (due_to book it) t (CallNext call change)) same_now
+        plans.shows
 
-    runs_it : map.get book.docket.running actor ≡ Some (recovering it.number recovery)
-    runs_it = plans.runs ∙ ap (λ t. Some (record { number = it.number; task = t })) is
+    abbrev with_task : Task → Running
+    with_task task = record { number = it.number; task = task; owed = it.owed }
 
-    on_it : RunsOn (ground_of book) (machine_of book) actor (recovering it.number recovery)
-    on_it = subst (λ t. RunsOn (ground_of book) (machine_of book) actor (record { number = it.number; task = t })) is
-        plans.on
+    runs_it : map.get book.docket.running actor ≡ Some (recovering it.number recovery it.owed)
+    runs_it = plans.runs ∙ ap (λ t. Some (with_task t)) is
+
+    on_it : RunsOn (ground_of book) (machine_of book) actor (recovering it.number recovery it.owed)
+    on_it = subst (λ t. RunsOn (ground_of book) (machine_of book) actor (with_task t)) is plans.on
 
     -- the devices' conditions hold
     pub recovery-fits :
         book.bench.list.next + book.bench.list.promised + length book.bench.store.entries < 2 ^ 63
         → Fits book.bench call
-    recovery-fits few = fits book actor it.number recovery whole runs_it on_it call shown.1 few
+    recovery-fits few = fits book actor it.number recovery it.owed whole runs_it on_it call shown.1 few
 
     -- the task may hear of its call
-    pub recovery-heard : (made : Made) → HearsMade now made
-    recovery-heard made = subst (λ t. HearsMade t made) (sym same_now)
-        (recovery-hears (ground_of book) recovery made on_it.stands.1)
+    pub recovery-heard : (made : Made) → HearsMade call now made
+    recovery-heard made = subst (λ t. HearsMade call t made) (sym same_now)
+        (recovery-hears (ground_of book) recovery call made on_it.stands.1)
 
     -- and the call leaves what it has to
     pub recovery-moves : (made : Made) (then : Task) (bench : Seen) → IsMade book.bench bench call (Ok made)
         → TaskAfter call made now then
-        → Moves book actor it.number
-        (after_of book it.number (record { call = call; change = change; task = now; then = then }) made bench)
+        → Moves book actor it.number (after_of book it.number call change then made bench)
     recovery-moves made then bench is_made after =
-        subst (λ c. Moves book actor it.number
-        (after_of book it.number (record { call = call; change = c; task = now; then = then }) made bench))
-        (sym shown.0)
-        (by-made book actor it.number recovery whole runs_it on_it call made then bench shown.1 is_made
+        subst (λ c. Moves book actor it.number (after_of book it.number call c then made bench)) (sym shown.0)
+        (by-made book actor it.number recovery it.owed whole runs_it on_it call made then bench shown.1 is_made
         (subst (λ t. TaskAfter call made t then) same_now after))

@@ -1,5 +1,7 @@
 -- A turn that gives a reply keeps a Book whole.
-use Rattle.std.proofs.Common.{◌≡◌, ◌≢◌, ℕ, ◌+◌, inl, inr, [], ◌∷◌, ◌++◌, refl, sym, ap, ◌∙◌, subst}
+use Rattle.std.proofs.Common.{List, ◌≡◌, ◌≢◌, ℕ, ◌+◌, inl, inr, true, [], ◌∷◌, ◌++◌, length, drop, refl, sym, ap, ◌∙◌}
+use Rattle.std.proofs.Common.{subst, arith}
+use Rattle.std.proofs.Math.Seq.{drop-length}
 use Rattle.std.proofs.lemmas.Option.{none-some, same_Some}
 use Rattle.std.specs.Prelude.{◌⊎◌, Some, None, IsSomeAnd, slice_get}
 use Rattle.std.specs.Cmp.{nat_cmp_total}
@@ -16,7 +18,7 @@ use Rattle.journal_model.specs.declared.phase.Phase.TheVariants.{Up, Down, Halte
 use Rattle.journal_model.specs.Actor.{actor_cmp, actor_total, actor_exact}
 use Rattle.journal_model.specs.Command.{actor_of}
 use Rattle.journal_model.specs.Machine.{Machine, Running as BeganCommand, after_entry, if_running, phase_after}
-use Rattle.journal_model.specs.Machine.{IsDurable, kind_of_reply, Outcome, Refusal as RefusalKind}
+use Rattle.journal_model.specs.Machine.{IsDurable, NoChangeOf, kind_of_reply, Outcome, Refusal as RefusalKind}
 use Rattle.journal_model.specs.Machine.{DidRecover, MayEnd, ComesTo, AllowsReply, evidence_of}
 use Rattle.journal_model.proofs.ByCommand.{phase-stays, user-stays}
 use Rattle.journal_model.proofs.Steps.{machine_after-append, legal-append}
@@ -28,13 +30,17 @@ use Rattle.vold_book.specs.declared.tasks.Task.TheVariants.{User as Using, Recov
 use Rattle.journal_model.specs.declared.entries.Device.{Device}
 use Rattle.journal_model.specs.declared.entries.Device.TheVariants.{Tree, Store, Ring}
 use Rattle.bench.specs.Bench.{listed}
+use Rattle.deferred_delete.specs.Deferral.{Deferral}
+use Rattle.blob_custody.specs.Steps.{pushed_all}
+use Rattle.tree_model.specs.declared.blobs.Blob.{Blob}
 use Rattle.vold_book.specs.Recovery.{IsSettled, AllPlaced}
 use Rattle.vold_book.specs.Turns.{IsTidied}
 use Rattle.blob_custody.specs.Custody.{IsListed}
 use Rattle.vold_book.proofs.Custodies.{relisted}
+use Rattle.vold_book.proofs.Carried.{Carries, KeepsSynced, owing-on, tried-on, pushed-behind, pushed-old, pushed-next}
 use Rattle.journal_model.specs.declared.commands.Command.{Command}
 use Rattle.vold_book.specs.State.{Plain, Ground, machine_of, tried_in, ground_of}
-use Rattle.vold_book.specs.Tasks.{TaskStands, RunsOn, TaskShows, Plans, lists_with, fault_of}
+use Rattle.vold_book.specs.Tasks.{TaskStands, RunsOn, TaskShows, Plans, ends_passed, lists_with, fault_of, due_to}
 use Rattle.vold_book.specs.Whole.{PhaseStands, AllRun, Whole}
 use Rattle.vold_book.proofs.Moves.{Steady, whole-of, tried-with, runs_apart}
 use Rattle.vold_book.proofs.Numbers.{quiet-replied, numbers-quiet, numbers-running}
@@ -57,6 +63,7 @@ module _ (book : Plain) (actor : Actor) (it : Running) (now : Task) (reply : Rep
     settled : IsSettled (ground_of book)
     placed : AllPlaced book.bench.store.entries (view book.bench.disk) book.bench.list
     lists : lists_with it.task ≡ []
+    durable : IsDurable machine None
     alone : (other : Actor) (o : Running) → other ≢ actor → map.get book.docket.running other ≡ Some o → ⊥
 
   -- the phase stays, or it is up then
@@ -93,7 +100,7 @@ module _ (book : Plain) (actor : Actor) (it : Running) (now : Task) (reply : Rep
   ends = by now refl (stands-now book actor it now (ReplyNext reply) plans) plans.shows
     where
       by : (task : Task) → now ≡ task → TaskStands (ground_of book) task began
-          → TaskShows (ground_of book) began task (ReplyNext reply) → Ends
+          → TaskShows (ground_of book) began (due_to book it) task (ReplyNext reply) → Ends
       by (Using task) same stands shows =
           record {
             may = none-allows stands.accepted
@@ -113,7 +120,9 @@ module _ (book : Plain) (actor : Actor) (it : Running) (now : Task) (reply : Rep
               settled = shows.settled;
               placed = shows.placed;
               lists = ap lists_with
-                  (recovers-it (ground_of book) began it.task now plans.jobs recovery plans.worked same);
+                  (recovers-it (ground_of book) began (due_to book it) it.task now plans.jobs recovery plans.worked
+                  same);
+              durable = durable;
               alone = nobody-else stands.1.0;
             });
           }
@@ -180,6 +189,36 @@ module _ (book : Plain) (actor : Actor) (it : Running) (now : Task) (reply : Rep
     list = listed book.bench.list (lists_with it.task);
   }
 
+  abbrev blobs : List Blob
+  blobs = lists_with it.task
+
+  abbrev roomy : Deferral
+  roomy = record book.bench.list { promised = book.bench.list.promised + length blobs }
+
+  listed-before : KeepsSynced book.bench.list (pushed_all roomy blobs true)
+  listed-before item has below = elim (pushed-old roomy blobs true item has) [
+    | inl was ↦ was
+    | inr later ↦ absurd (omega (arith, later, below))
+  ]
+
+  -- what commands owe is listed still
+  carries : Carries (ground_of book) ground'
+  carries = record {
+    next = let next = pushed-next roomy blobs true in omega (arith, next);
+    given = λ blob given. given;
+    swept = λ blob given none. none;
+    tagged = λ blob entry given live. live;
+    items = λ item has. inl (record {
+      now = item;
+      has = pushed-behind roomy blobs true item has;
+      number = refl;
+      blob = refl;
+      unsynced = λ off. (off, λ user not_durable. not_durable);
+    });
+    old = λ item has below. (item, listed-before item has below, refl);
+    alike = inl listed-before;
+  }
+
   -- another command stands as it did, where the phase stays
   same-phase : (other : Actor) (o : Running) → map.get running' other ≡ Some o
       → PhaseGoes (phase_after machine.phase began.command reply) → (b : BeganCommand)
@@ -208,6 +247,11 @@ module _ (book : Plain) (actor : Actor) (it : Running) (now : Task) (reply : Rep
         own = run.own;
         stands = same-phase other o at ends.goes run.began run.stands;
         holds = record { differ = run.holds.differ; own = run.holds.own };
+        owes = λ item owed.
+            let own = run.owes item owed in
+            (own.0, own.1, owing-on (ground_of book) ground' own.0 item carries own.2);
+        tried = tried-on (ground_of book) ground' other (ends_passed run.began.command o.task) o.owed carries run.owes
+            run.tried;
       }
 
   all-then : AllRun machine' running'
@@ -227,7 +271,11 @@ module _ (book : Plain) (actor : Actor) (it : Running) (now : Task) (reply : Rep
   stands-then : (phase : Phase) → machine.phase ≡ phase → PhaseStands phase book machine
       → PhaseGoes (phase_after machine.phase began.command reply) → PhaseStands machine'.phase after machine'
   stands-then phase is stands (inr up) =
-      subst (λ p. PhaseStands p after machine') (sym (phase-is ∙ up.up)) up.settled.tidy.known
+      subst (λ p. PhaseStands p after machine') (sym (phase-is ∙ up.up)) (
+        up.settled.tidy.known,
+        λ user there unmarked. subst (λ kept. NoChangeOf user (drop kept machine.log)) (sym up.durable)
+            (subst (NoChangeOf user) (sym (drop-length machine.log)) tt),
+      )
   stands-then Up is stands (inl same) = subst (λ p. PhaseStands p after machine') (sym (phase-is ∙ same ∙ is)) stands
   stands-then Down is stands (inl same) = subst (λ p. PhaseStands p after machine') (sym (phase-is ∙ same ∙ is))
       (stands.0, λ other o at. stands.1 other o (was_run other o at))

@@ -13,13 +13,13 @@ use Rattle.journal_model.specs.declared.commands.Reply.TheVariants.{Done}
 use Rattle.journal_model.specs.declared.entries.Device.{Device}
 use Rattle.journal_model.specs.declared.entries.Device.TheVariants.{Tree, Store, Ring}
 use Rattle.journal_model.specs.declared.entries.Entry.{Entry}
-use Rattle.journal_model.specs.declared.entries.Entry.TheVariants.{Synced, Evicted, Replied}
+use Rattle.journal_model.specs.declared.entries.Entry.TheVariants.{Synced, Evicted, Replied, Swept}
 use Rattle.journal_model.specs.Command.{actor_of}
 use Rattle.journal_model.specs.Machine.{Running as BeganCommand, kind_of_reply, Outcome, Refusal as RefusalKind}
 use Rattle.user_world.specs.declared.changes.LocalChange.{LocalChange}
 use Rattle.user_world.proofs.Timelines.{known-shown}
 use Rattle.task_turns.specs.declared.calls.Call.{Call}
-use Rattle.task_turns.specs.declared.calls.Call.TheVariants.{Op, Sync, List as ListCall, Read}
+use Rattle.task_turns.specs.declared.calls.Call.TheVariants.{Op, Sync, List as ListCall, Read, Delete}
 use Rattle.task_turns.specs.declared.calls.Call.TheVariants.{Generate, Encrypt, Decrypt, Entries, Add, Remove}
 use Rattle.task_turns.specs.declared.next.Next.TheVariants.{Call as CallNext, Reply as ReplyNext}
 use Rattle.task_turns.specs.Shares.{IsUnder}
@@ -35,12 +35,14 @@ use Rattle.vold_book.specs.Entries.{entry_of, made_entry}
 use Rattle.vold_book.specs.Parts.{with_entry}
 use Rattle.vold_book.specs.State.{BookState, Plain, seen, machine_of, timeline, ground_of, share_of}
 use Rattle.vold_book.specs.Steps.{GoesOn}
-use Rattle.vold_book.specs.Tasks.{TaskStands, TaskShows, scene_of, fault_of}
-use Rattle.vold_book.specs.Turns.{ComesOfOpening, IsRecorded, GaveRecorded, OpensFirst}
+use Rattle.vold_book.specs.Tasks.{TaskStands, TaskShows, scene_of, fault_of, due_to}
+use Rattle.vold_book.specs.Opening.{ComesOfOpening, IsRecorded, GaveRecorded, OpensFirst}
 use Rattle.vold_book.specs.Whole.{Whole, IsWhole}
 use Rattle.vold_book.proofs.Shown.{next_reply}
-use Rattle.vold_book.proofs.UserTurns.{same_user}
+use Rattle.vold_book.proofs.Grounds.{same_user}
 use Rattle.vold_book.proofs.Worked.{stands-now}
+use Rattle.journal_model.specs.declared.commands.Command.TheVariants.{Destroy, Fixate}
+use Rattle.deferred_delete.specs.declared.items.Item.{Item}
 
 -- only what came of a command's work tells that its key was opened
 tells-outcome : (reply : Reply) (command : Command) → TellsOpened reply command → kind_of_reply reply ≡ Outcome
@@ -59,7 +61,7 @@ faults-none Store command tells = tells
 faults-none Ring command tells = tells
 
 -- the entry that was added last
-last-entry : (entries : List Entry) (found : Option Entry) (entry : Entry)
+pub last-entry : (entries : List Entry) (found : Option Entry) (entry : Entry)
     → with_entry entries found ≡ entries ++ entry ∷ [] → found ≡ Some entry
 last-entry entries None entry same =
     let longer : length entries ≡ length entries + 1 = ap length same ∙ length_push entries entry in
@@ -80,14 +82,17 @@ module _ (book : Plain) (whole : Whole book) (began : BeganCommand) where
       → IfSome (opening_secret command) (IsUnder (share_of user (ground_of book)) user) → GaveRecorded book command
   recorded user (Create owner) own right = tt
   recorded user (Lock owner) own right = tt
+  recorded user (Fixate owner) own right = tt
+  recorded user (Destroy owner) own right = tt
   recorded user Recover own right = tt
   recorded user (Unlock owner secret) own right = of-user user owner secret (same_user owner user own) right
   recorded user (Protect owner secret fresh) own right = of-user user owner secret (same_user owner user own) right
 
-  module _ (number : ℕ) (call : Call) (change : Option LocalChange) (made : Made) (entry : Entry)
+  module _ (due : Option Item) (number : ℕ) (call : Call) (change : Option LocalChange) (made : Made) (entry : Entry)
       (is : made_entry made (entry_of number call change) ≡ Some entry) where
     -- the entry of a call that shows what it has to
-    by-call : (task : _) → CallShows (seen_of tasks task) (scene_of (user_of task) (ground_of book) began) call change
+    by-call : (task : _) → CallShows (seen_of tasks task) (scene_of (user_of task) (ground_of book) began due) call
+        change
         → actor_of began.command ≡ User (user_of task) → ComesOfOpening entry began.command
         → GaveRecorded book began.command
     by-call task shows own comes = by made call change is shows
@@ -97,7 +102,7 @@ module _ (book : Plain) (whole : Whole book) (began : BeganCommand) where
 
         by : (made : Made) (call : Call) (change : Option LocalChange)
             → made_entry made (entry_of number call change) ≡ Some entry
-            → CallShows (seen_of tasks task) (scene_of (user_of task) (ground_of book) began) call change
+            → CallShows (seen_of tasks task) (scene_of (user_of task) (ground_of book) began due) call change
             → GaveRecorded book began.command
         by (Failed device) call change is shows = none is
         by (Heard answer) (Op owner op names) None is shows = none is
@@ -109,6 +114,8 @@ module _ (book : Plain) (whole : Whole book) (began : BeganCommand) where
             recorded (user_of task) began.command own shows.stands.right
         by (Heard answer) (Remove owner class) change is shows = absurd (subst (λ e. ComesOfOpening e began.command)
             (sym (same_Some (Evicted owner class) entry is)) comes)
+        by (Heard answer) (Delete item tells) change is shows = absurd (subst (λ e. ComesOfOpening e began.command)
+            (sym (same_Some (Swept item.blob) entry is)) comes)
         by (Heard answer) ListCall change is shows = none is
         by (Heard answer) (Read place) change is shows = none is
         by (Heard answer) (Generate tag app_id) change is shows = none is
@@ -117,7 +124,7 @@ module _ (book : Plain) (whole : Whole book) (began : BeganCommand) where
         by (Heard answer) Entries change is shows = none is
 
     task-call : (task : Task) → TaskStands (ground_of book) task began
-        → TaskShows (ground_of book) began task (CallNext call change) → ComesOfOpening entry began.command
+        → TaskShows (ground_of book) began due task (CallNext call change) → ComesOfOpening entry began.command
         → GaveRecorded book began.command
     task-call (Using task) stands shows comes = by-call task shows stands.of_user comes
     task-call (Recovers recovery) stands shows comes = subst (GaveRecorded book) (sym stands.0.command) tt
@@ -131,22 +138,22 @@ module _ (book : Plain) (whole : Whole book) (began : BeganCommand) where
         apart e = cc
 
   -- and a reply
-  task-reply : (reply : Reply) (task : Task) → TaskStands (ground_of book) task began
-      → TaskShows (ground_of book) began task (ReplyNext reply) → TellsOpened reply began.command
+  task-reply : (due : Option Item) (reply : Reply) (task : Task) → TaskStands (ground_of book) task began
+      → TaskShows (ground_of book) began due task (ReplyNext reply) → TellsOpened reply began.command
       → GaveRecorded book began.command
-  task-reply reply (Using task) stands shows tells =
+  task-reply due reply (Using task) stands shows tells =
       recorded (user_of task) began.command stands.of_user (shows.right tells)
-  task-reply reply (Recovers recovery) stands shows tells = subst (GaveRecorded book) (sym stands.0.command) tt
-  task-reply reply (Refusal refusal) stands shows tells = absurd (refuses-none refusal began.command stands.1
+  task-reply due reply (Recovers recovery) stands shows tells = subst (GaveRecorded book) (sym stands.0.command) tt
+  task-reply due reply (Refusal refusal) stands shows tells = absurd (refuses-none refusal began.command stands.1
       (subst (λ r. TellsOpened r began.command) (next_reply reply refusal shows) tells))
-  task-reply reply (Fault device held) stands shows tells = absurd (faults-none device began.command
+  task-reply due reply (Fault device held) stands shows tells = absurd (faults-none device began.command
       (subst (λ r. TellsOpened r began.command) (next_reply reply (fault_of device) shows) tells))
 
 -- the command that an actor runs is the one that the machine has of it
 module _ (book : Plain) (actor : Actor) (ours : Running) (runs : map.get book.docket.running actor ≡ Some ours)
     (whole : Whole book) (began : BeganCommand)
     (at : map.get (machine_of book).running ours.number ≡ Some began) where
-  it-is : (it : Running) (command : Command) → map.get book.docket.running actor ≡ Some it
+  pub it-is : (it : Running) (command : Command) → map.get book.docket.running actor ≡ Some it
       → slice_get book.docket.commands it.number ≡ Some command → began.command ≡ command
   it-is it command its given = same_Some began.command command
       (sym (whole.numbers.given ours.number began at).given
@@ -162,7 +169,8 @@ module _ {D E F : Type 0} (senses : Senses D E F) (before after : BookState (Ben
       let began = calls.plans.on.began in
       let is = it-is plain actor calls.it calls.plans.runs whole began calls.plans.on.at it command runs given in
       subst (GaveRecorded plain) is
-      (task-call plain whole began calls.it.number calls.making.call calls.making.change calls.makes.made entry
+      (task-call plain whole began (due_to plain calls.it) calls.it.number calls.making.call calls.making.change
+      calls.makes.made entry
       (last-entry before.ledger.entries _ entry (sym (ap (λ b. b.ledger.entries) calls.makes.state) ∙ same))
       calls.making.task (stands-now plain actor calls.it calls.making.task _ calls.plans) calls.plans.shows
       (subst (ComesOfOpening entry) (sym is) comes))
@@ -173,7 +181,7 @@ module _ {D E F : Type 0} (senses : Senses D E F) (before after : BookState (Ben
       (last-entry before.ledger.entries (Some (Replied replies.it.number replies.reply)) entry
       (sym (ap (λ b. b.ledger.entries) replies.replies.state) ∙ same)) in
       subst (GaveRecorded plain) is
-      (task-reply plain whole began replies.reply replies.now
+      (task-reply plain whole began (due_to plain replies.it) replies.reply replies.now
       (stands-now plain actor replies.it replies.now _ replies.plans) replies.plans.shows
       (subst (ComesOfOpening (Replied replies.it.number replies.reply)) (sym is)
       (subst (λ e. ComesOfOpening e command) (sym entry_is) comes)))

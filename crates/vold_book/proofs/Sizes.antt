@@ -1,8 +1,6 @@
 -- How calls change the number of directories, in the view and in whatever tree a stop can leave.
 use Rattle.std.proofs.Common.{◌≡◌, inl, inr, zero, suc, ℕ, ◌+◌, ◌-◌, ◌<◌, ◌≤◌, Bool, true, false, cond}
-use Rattle.std.proofs.Common.{List, [], ◌∷◌, ◌++◌, length, length-append, take, refl, sym, ap, ◌∙◌, subst, arith}
-use Rattle.std.proofs.lemmas.Bool.{cases_lt}
-use Rattle.std.proofs.lemmas.List.{take-append-le, take_all}
+use Rattle.std.proofs.Common.{List, [], length, take, refl, sym, ap, ◌∙◌, subst, arith}
 use Rattle.std.specs.Prelude.{min, Option, Some, None, IsSome, IsNone, is_some}
 use Rattle.std.specs.FinMap as map
 use Rattle.std.specs.Ordering.{eq_by_cmp}
@@ -15,12 +13,12 @@ use Rattle.tree_model.specs.declared.sites.LocalOp.TheVariants.{RenameDir, Remov
 use Rattle.tree_model.specs.Dir.{Files}
 use Rattle.tree_model.specs.Order.{place_cmp, place_total}
 use Rattle.tree_model.specs.Tree.{Tree, if_there, after_op, at_dir, renamed_file, renamed_dir}
-use Rattle.tree_model.specs.Disk.{Disk, view, with_op, synced, stopped, filled, IsImage}
+use Rattle.tree_model.specs.Disk.{Disk, view, with_op, synced, stopped, filled}
 use Rattle.tree_model.specs.Sites.{place_of, op_of}
 use Rattle.tree_model.specs.Parts.{part_of, LocalFits}
-use Rattle.tree_model.proofs.Images.{image-IsImage, IsImage-append}
+use Rattle.tree_model.proofs.Images.{image-IsImage}
 use Rattle.blob_custody.specs.Custody.{IsLeft}
-use Rattle.blob_custody.proofs.Left.{nothing-pending, all-left, view-left, view-op}
+use Rattle.blob_custody.proofs.Left.{nothing-pending, all-left, view-left, view-op, left-op}
 use Rattle.user_world.specs.Turns.{adds_local, takes_local}
 
 module _ (tree : Tree) (place : Place) where
@@ -128,26 +126,14 @@ exceeds-none disk left is = record { from = left; is = is; few = omega arith }
 -- with one more operation, of whatever bytes, the others may have left it or what it was done on
 pub exceeds-op : (disk : Disk) (user : ℕ) (op : LocalOp) (left : Tree)
     → IsLeft (with_op disk (op_of user op)) left → Exceeds disk (adds_local op) left
-exceeds-op disk user op left is = elim (cases_lt (length disk.pending) is.keep) [
-  | inl above ↦
-      let new = IsImage-append disk.stable disk.pending (op_of user op) left
-      (subst (λ ops. IsImage disk.stable ops left) (take_all is.keep (disk.pending ++ op_of user op ∷ [])
-      (omega (arith, above, length-append disk.pending (op_of user op ∷ [])))) is.image) in record {
-        from = new.0;
-        is = all-left disk new.0 new.1.1.0;
-        few = subst (λ tree. map.len tree ≤ map.len new.0 + adds_local op) (sym new.1.1.1)
-            (len-filled new.0 user op new.1.0);
-      }
-  | inr below ↦ record {
-    from = left;
-    is = record {
-      keep = is.keep;
-      short = below;
-      image = subst (λ ops. IsImage disk.stable ops left)
-          (take-append-le is.keep disk.pending (op_of user op ∷ []) below) is.image;
-    };
-    few = omega arith;
+exceeds-op disk user op left is = elim (left-op disk (op_of user op) left is) [
+  | inr new ↦ record {
+    from = new.0;
+    is = all-left disk new.0 new.1.1.0;
+    few = subst (λ tree. map.len tree ≤ map.len new.0 + adds_local op) (sym new.1.1.1)
+        (len-filled new.0 user op new.1.0);
   }
+  | inl below ↦ record { from = left; is = below; few = omega arith }
 ]
 
 -- where nothing is pending, a stop leaves what is stable
@@ -161,17 +147,19 @@ exceeds-synced disk left is = record {
   few = let same = ap (λ t. map.len t) (left-still (view disk) left is) in omega (arith, same);
 }
 
+-- what a stop leaves of a stopped disk, the stop before could leave too
+pub left-stopped : (disk : Disk) (keep : ℕ) (fills : List Fill) (left : Tree)
+    → IsLeft (stopped disk keep fills) left → IsLeft disk left
+left-stopped disk keep fills left is = subst (IsLeft disk) (sym (left-still (stopped disk keep fills).stable left is))
+    (record {
+      keep = min keep (length disk.pending);
+      short = omega arith;
+      image = image-IsImage disk.stable (take (min keep (length disk.pending)) disk.pending) fills;
+    })
+
 pub exceeds-stopped : (disk : Disk) (keep : ℕ) (fills : List Fill) (left : Tree)
     → IsLeft (stopped disk keep fills) left → Exceeds disk 0 left
-exceeds-stopped disk keep fills left is = record {
-  from = (stopped disk keep fills).stable;
-  is = record {
-    keep = min keep (length disk.pending);
-    short = omega arith;
-    image = image-IsImage disk.stable (take (min keep (length disk.pending)) disk.pending) fills;
-  };
-  few = let same = ap (λ t. map.len t) (left-still (stopped disk keep fills).stable left is) in omega (arith, same);
-}
+exceeds-stopped disk keep fills left is = exceeds-none disk left (left-stopped disk keep fills left is)
 
 -- what an operation makes of the view, where it may be made
 len-op : (tree : Tree) (user : ℕ) (op : LocalOp) → LocalFits (part_of tree user) op

@@ -1,4 +1,4 @@
--- The slots that a command with a secret has to try: they are few, and they are those that are left to try.
+-- The slots that a command with a secret has to try: they are those that are left to try.
 use Rattle.std.proofs.Common.{◌≡◌, ◌⊎◌, ℕ, ◌+◌, ◌<◌, ◌≤◌, ◌==◌, ◌&&◌, inl, inr, Bool, true, false, cond, List, [], ◌∷◌}
 use Rattle.std.proofs.Common.{◌++◌, length, get_or, take, refl, sym, ap, ◌∙◌, subst, arith, eq-eqb, eqb-true}
 use Rattle.std.proofs.lemmas.Bool.{and_parts}
@@ -30,16 +30,12 @@ use Rattle.tree_model.proofs.Logic.{true_from_T, is_less, is_equal}
 use Rattle.tree_model.proofs.Maps.{tied}
 use Rattle.journal_model.specs.declared.commands.Actor.{Actor}
 use Rattle.journal_model.specs.declared.commands.Actor.TheVariants.{User}
-use Rattle.journal_model.specs.declared.commands.Command.{Command}
-use Rattle.journal_model.specs.declared.commands.Command.TheVariants.{Unlock, Protect}
 use Rattle.journal_model.specs.declared.phase.Phase.{Phase}
 use Rattle.journal_model.specs.declared.phase.Phase.TheVariants.{Up, Down, Halted}
-use Rattle.journal_model.specs.Command.{actor_of}
 use Rattle.journal_model.specs.Machine.{TakesTurn}
 use Rattle.journal_model.specs.Users.{Record}
 use Rattle.user_world.specs.OwnWorlds.{own_view, own_record}
 use Rattle.user_world.proofs.OwnWorlds.{view-stands}
-use Rattle.user_world.proofs.Timelines.{view-shown}
 use Rattle.key_directory.specs.Opened.{fits_secret, OpensTo, SlotTells}
 use Rattle.key_directory.specs.Shape.{sized}
 use Rattle.key_directory.specs.Vaults.{sealed, SealedStands}
@@ -50,15 +46,10 @@ use Rattle.step_core.specs.Table.{NamedPlaces, named_by}
 use Rattle.task_turns.specs.Shares.{Share, IsSound, AreNewestFirst, MayOpen, AreLeftToTry}
 use Rattle.bench.specs.Bench.{named_in}
 use Rattle.bench.specs.Known.{Knows}
-use Rattle.vold_book.specs.Recovery.{max_places}
-use Rattle.vold_book.specs.Slots.{slot_at, slots_in, slots_for}
+use Rattle.vold_book.specs.Slots.{slot_at, slots_in}
 use Rattle.vold_book.specs.State.{Plain, machine_of, ground_of, share_of}
-use Rattle.vold_book.specs.Turns.{user_there}
 use Rattle.vold_book.specs.Whole.{PhaseStands, Whole}
-use Rattle.vold_book.proofs.Counted.{length-keys}
-use Rattle.vold_book.proofs.SameKeys.{same-count}
-use Rattle.vold_book.proofs.Small.{small-bounds}
-use Rattle.vold_book.proofs.UserTurns.{not_boot}
+use Rattle.vold_book.proofs.Grounds.{not_boot}
 
 -- slots stay the newest first with an older one at the end
 newest-push : (slots : List Slot) (last : Slot) → AreNewestFirst slots
@@ -73,7 +64,7 @@ newest-push (slot ∷ slots) last order older = (
 )
 
 -- a user's places of credential keys stand in the order of their slots
-places-order : (user : ℕ) (slot other : Slot) → place_cmp (Ce user slot) (Ce user other) ≡ Less
+pub places-order : (user : ℕ) (slot other : Slot) → place_cmp (Ce user slot) (Ce user other) ≡ Less
     → slot_cmp slot other ≡ Less
 places-order user slot other less =
     sym (ap (λ o. ordering_then o (slot_cmp slot other)) (tied_itself nat_cmp_total user)) ∙ less
@@ -104,7 +95,7 @@ module _ {V : Type 0} where
       either false there = there
 
   -- and each key is above one that is below all
-  below-key : (low : Place) (rows : List (Place × V)) → below_all place_cmp low rows ≡ true → (key : Place)
+  pub below-key : (low : Place) (rows : List (Place × V)) → below_all place_cmp low rows ≡ true → (key : Place)
       → Contains (keys rows) key → place_cmp low key ≡ Less
   below-key low [] below key has = absurd (Contains-none key has)
   below-key low (row ∷ rows) below key has = elim (Contains-cases row.0 (keys rows) key has) [
@@ -113,11 +104,11 @@ module _ {V : Type 0} where
     | inr rest ↦ below-key low rows (and_parts _ _ below).1 key rest
   ]
 
-key-there : (places : NamedPlaces) (key : Place) → Contains (map.keys places) key → IsSome (map.get places key)
+pub key-there : (places : NamedPlaces) (key : Place) → Contains (map.keys places) key → IsSome (map.get places key)
 key-there places key has =
     subst IsSome (sym (map.get-entries places key)) (key-found (map.entries places) key has)
 
-there-key : (places : NamedPlaces) (key : Place) → IsSome (map.get places key) → Contains (map.keys places) key
+pub there-key : (places : NamedPlaces) (key : Place) → IsSome (map.get places key) → Contains (map.keys places) key
 there-key places key there =
     found-key (map.entries places) key (subst IsSome (map.get-entries places key) there)
 
@@ -201,7 +192,7 @@ module _ (places : NamedPlaces) (user : ℕ) (secret : List ℕ) where
       by true = omega arith
       by false = omega arith
 
-  few-in : (all : List Place) → length (slots_in places user secret all) ≤ length all
+  pub few-in : (all : List Place) → length (slots_in places user secret all) ≤ length all
   few-in [] = omega arith
   few-in (place ∷ all) =
       let rest = few-in all in
@@ -291,7 +282,7 @@ module _ (places : NamedPlaces) (tree : Tree) (knows : Knows places tree) (user 
       fits = (tells secret).fit (sym (ap (λ n. fits_secret n secret) names-known) ∙ fit);
     }
 
-  left-to-try : AreLeftToTry share secret (slots_in places user secret (map.keys places))
+  pub left-to-try : AreLeftToTry share secret (slots_in places user secret (map.keys places))
   left-to-try = record {
     present = present;
     tried = slot-tried;
@@ -310,41 +301,16 @@ user-up Up actor user takes is = refl
 user-up Down actor user takes is = absurd (not_boot user (sym takes ∙ is))
 user-up Halted actor user takes is = absurd takes
 
+-- and the places of the view are known then
+pub known-up : (book : Plain) (actor : Actor) → Whole book → TakesTurn book.tracker.phase actor → (user : ℕ)
+    → actor ≡ User user → Knows book.bench.places (view book.bench.disk)
+known-up book actor whole takes user is =
+    (subst (λ phase. PhaseStands phase book (machine_of book)) (user-up book.tracker.phase actor user takes is)
+    whole.phase).0
+
 -- a user's share of a whole Book is sound
 pub sound-share : (book : Plain) → Whole book → (user : ℕ) → IsSound user (share_of user (ground_of book))
 sound-share book whole user = record {
   images = whole.worlds.images user;
   current = whole.current;
 }
-
-module _ (book : Plain) (actor : Actor) (whole : Whole book) (takes : TakesTurn book.tracker.phase actor) where
-  known-up : (user : ℕ) → actor ≡ User user → Knows book.bench.places (view book.bench.disk)
-  known-up user is =
-      subst (λ phase. PhaseStands phase book (machine_of book)) (user-up book.tracker.phase actor user takes is)
-      whole.phase
-
-  few-unlocked : (user : ℕ) (secret : List ℕ) → actor ≡ User user
-      → length (slots_in book.bench.places user secret (map.keys book.bench.places)) ≤ max_places
-  few-unlocked user secret is =
-      let few = few-in book.bench.places user secret (map.keys book.bench.places) in
-      let all = length-keys book.bench.places in
-      let same = same-count book.bench.places (view book.bench.disk) (known-up user is).there in
-      let bound = (small-bounds book whole.small whole.numbers.few).places in
-      omega (arith, few, all, same, bound)
-
-  pub slots-to-try : (user : ℕ) (secret : List ℕ) → actor ≡ User user
-      → user_there book.bench.places (Some user) ≡ true
-      → AreLeftToTry (share_of user (ground_of book)) secret
-      (slots_in book.bench.places user secret (map.keys book.bench.places))
-  slots-to-try user secret is there =
-      left-to-try book.bench.places (view book.bench.disk) (known-up user is) user secret
-      (share_of user (ground_of book)) (sound-share book whole user)
-      (view-shown user _ (ground_of book).line whole.worlds.shows) there
-
-pub few-slots : (book : Plain) (actor : Actor) (command : Command) → Whole book
-    → TakesTurn book.tracker.phase actor → actor_of command ≡ actor
-    → length (slots_for book.bench.places command) ≤ max_places
-few-slots book actor (Unlock user secret) whole takes own = few-unlocked book actor whole takes user secret (sym own)
-few-slots book actor (Protect user given fresh) whole takes own =
-    few-unlocked book actor whole takes user given (sym own)
-few-slots book actor command whole takes own = omega arith

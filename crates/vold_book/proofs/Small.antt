@@ -1,6 +1,6 @@
 -- How much a Book holds stays within what the numbers that were given out allow, through each turn, stop and restart.
-use Rattle.std.proofs.Common.{◌≡◌, ℕ, ◌+◌, ◌*◌, ◌-◌, ◌^◌, ◌<◌, ◌≤◌, Bool, List, [], ◌∷◌, ◌++◌, length, length-append}
-use Rattle.std.proofs.Common.{true, mul-add, mul-one, refl, sym, ap, ◌∙◌, subst, arith}
+use Rattle.std.proofs.Common.{◌≡◌, ℕ, ◌+◌, ◌*◌, ◌≤◌, Bool, List, [], ◌∷◌, ◌++◌, length, length-append}
+use Rattle.std.proofs.Common.{true, mul-add, mul-one, refl, sym, ap, ◌∙◌, subst, arith, false, not}
 use Rattle.std.proofs.lemmas.List.{length-map}
 use Rattle.std.specs.Prelude.{Option, Some, None, Ok}
 use Rattle.std.specs.FinMap as map
@@ -10,7 +10,7 @@ use Rattle.tree_model.specs.declared.sites.LocalOp.{LocalOp}
 use Rattle.tree_model.specs.declared.sites.LocalOp.TheVariants.{MakeDir, Write, RenameFile}
 use Rattle.tree_model.specs.declared.sites.LocalOp.TheVariants.{RenameDir, RemoveFile, RemoveDir}
 use Rattle.tree_model.specs.Dir.{Files}
-use Rattle.tree_model.specs.Disk.{view, with_op, stopped}
+use Rattle.tree_model.specs.Disk.{with_op, stopped}
 use Rattle.tree_model.specs.Order.{place_cmp}
 use Rattle.tree_model.specs.Sites.{op_of}
 use Rattle.tree_model.specs.Tree.{Tree}
@@ -26,22 +26,19 @@ use Rattle.sorted_map.proofs.Sums.{worth, sum-insert, sum-remove, worth-length}
 use Rattle.docket.specs.Docket.{after_begin as docket_begun, with_command as docket_with, with_first_command}
 use Rattle.docket.specs.Docket.{with_queue, queue_of, empty_docket}
 use Rattle.docket.proofs.Accounts.{sum-left, sum-empty}
-use Rattle.deferred_delete.specs.Deferral.{Deferral, pushed}
-use Rattle.keystore_model.specs.Store.{blobs_of, new_entry, empty_store}
+use Rattle.deferred_delete.specs.Deferral.{Deferral}
+use Rattle.keystore_model.specs.Store.{blobs_of, new_entry, empty_store, same_bytes, without}
 use Rattle.blob_custody.specs.Custody.{IsLeft}
-use Rattle.blob_custody.specs.Steps.{pushed_all}
-use Rattle.blob_custody.proofs.Left.{view-left}
 use Rattle.user_world.specs.Turns.{adds_local}
-use Rattle.step_core.specs.Table.{NamedPlaces}
 use Rattle.task_turns.specs.declared.calls.Answer.{Answer}
 use Rattle.task_turns.specs.declared.calls.Call.{Call}
-use Rattle.task_turns.specs.declared.calls.Call.TheVariants.{Op as OpCall, Sync, List as ListCall, Read}
+use Rattle.task_turns.specs.declared.calls.Call.TheVariants.{Op as OpCall, Sync, List as ListCall, Read, Delete}
 use Rattle.task_turns.specs.declared.calls.Call.TheVariants.{Generate, Encrypt, Decrypt, Entries, Add, Remove}
 use Rattle.task_turns.specs.Turns.{cost_of}
 use Rattle.bench.specs.declared.made.Made.{Made}
 use Rattle.bench.specs.declared.made.Made.TheVariants.{Heard, Failed}
-use Rattle.bench.specs.Bench.{Plain as Seen, AreUnnamed, Nothing, Unnamed, Named, Rests, IsFailedOp, IsFailed}
-use Rattle.bench.specs.Bench.{Does, IsMade, listed}
+use Rattle.bench.specs.Bench.{Plain as Seen, Rests, IsFailedOp, IsFailed, dropped}
+use Rattle.bench.specs.Bench.{Does, IsMade, listed, listed_as}
 use Rattle.vold_book.specs.declared.opened.Opened.{Opened}
 use Rattle.vold_book.specs.declared.tasks.Running.{Running}
 use Rattle.vold_book.specs.declared.tasks.Task.{Task}
@@ -51,11 +48,21 @@ use Rattle.vold_book.specs.Stops.{after_stop, after_restart}
 use Rattle.vold_book.specs.Tasks.{lists_with}
 use Rattle.vold_book.specs.Turns.{Start, FirstTask, AcceptedTask, Making, new_book, after_call, with_command, unlisted}
 use Rattle.vold_book.specs.Recovery.{max_commands, max_places}
-use Rattle.vold_book.specs.Whole.{within, makes_in, draws_in, lists_in, makes_of, draws_of, lists_of, IsSmall}
+use Rattle.vold_book.specs.Whole.{most_listed, within, makes_in, draws_in, lists_in, makes_of}
+use Rattle.vold_book.specs.Whole.{draws_of, lists_of, IsSmall}
 use Rattle.vold_book.proofs.Plains.{Beginning, begun_plain, begun_seen, work_of, replied_plain}
-use Rattle.vold_book.proofs.Shown.{CallFalls, cost_made, lists_made, lists_done, lists-told}
+use Rattle.vold_book.proofs.Shown.{CallFalls, cost_made, drops_made, finds_made, finds_done, lists-told}
 use Rattle.vold_book.proofs.Sizes.{Exceeds, exceeds-none, exceeds-op, exceeds-synced, exceeds-stopped}
 use Rattle.vold_book.proofs.Sizes.{left-still}
+use Rattle.vold_book.proofs.Bounds.{small-bounds}
+use Rattle.vold_book.proofs.Moves.{Notes}
+use Rattle.keystore_model.specs.declared.entry.StoreEntry.{StoreEntry}
+use Rattle.vold_book.specs.Owed.{drops_of}
+use Rattle.std.proofs.lemmas.List.Sums.{length-filter, count_by-le-length}
+use Rattle.bench.proofs.Pushed.{listed_as-nothing, pushed_all-promised}
+use Rattle.vold_book.proofs.Carried.{pushed-next}
+use Rattle.vold_book.specs.Slots.{slots_for, slots_of}
+use Rattle.vold_book.proofs.Numbering.{few-unnamed}
 
 -- so many times one more
 one-more : (each n m : ℕ) → n + 1 ≡ m → each * n + each ≡ each * m
@@ -113,34 +120,15 @@ module _ (docket : Docket) (each : ℕ) (of : Running → ℕ) (made : ℕ) (few
       omega (arith, waits, given, few)
 
 -- what is listed takes a number each, and no more promises than it came with
-pushed_all-next : (list : Deferral) (blobs : List Blob) (synced : Bool)
-    → (pushed_all list blobs synced).next ≡ list.next + length blobs
-pushed_all-next list [] synced = omega arith
-pushed_all-next list (blob ∷ blobs) synced =
-    let rest = pushed_all-next (pushed list blob synced) blobs synced in omega (arith, rest)
+pub listed-next : (synced : Bool) (list : Deferral) (found : List Blob)
+    → (listed_as synced list found).next ≡ list.next + length found
+listed-next synced list found = pushed-next (record list { promised = list.promised + length found }) found synced
 
-pushed_all-promised : (list : Deferral) (blobs : List Blob) (synced : Bool)
-    → (pushed_all list blobs synced).promised ≡ list.promised - length blobs
-pushed_all-promised list [] synced = omega arith
-pushed_all-promised list (blob ∷ blobs) synced =
-    let rest = pushed_all-promised (pushed list blob synced) blobs synced in omega (arith, rest)
-
-listed-next : (list : Deferral) (found : List Blob) → (listed list found).next ≡ list.next + length found
-listed-next list found = pushed_all-next (record list { promised = list.promised + length found }) found true
-
-listed-promised : (list : Deferral) (found : List Blob) → (listed list found).promised ≡ list.promised
-listed-promised list found =
-    let is = pushed_all-promised (record list { promised = list.promised + length found }) found true in
+pub listed-promised : (synced : Bool) (list : Deferral) (found : List Blob)
+    → (listed_as synced list found).promised ≡ list.promised
+listed-promised synced list found =
+    let is = pushed_all-promised (record list { promised = list.promised + length found }) found synced in
     omega (arith, is)
-
--- no more are found than there are
-few-unnamed : (places : NamedPlaces) (blobs found : List Blob) → AreUnnamed places blobs found
-    → length found ≤ length blobs
-few-unnamed places blobs found Nothing = omega arith
-few-unnamed places blobs found (Unnamed blob rest others unknown are) =
-    let few = few-unnamed places rest others are in omega (arith, few)
-few-unnamed places blobs found (Named blob rest others known are) =
-    let few = few-unnamed places rest others are in omega (arith, few)
 
 -- what a call adds to both devices and to the list
 record Adds (before after : Seen) (makes draws lists : ℕ) : Type 0 where
@@ -163,14 +151,15 @@ adds-none before after disk store next promised = record {
 }
 
 -- an operation
-adds-op : (before after : Seen) (user : ℕ) (op : LocalOp) → after.disk ≡ with_op before.disk (op_of user op)
-    → after.store ≡ before.store → after.list ≡ before.list → Adds before after (adds_local op) 0 0
-adds-op before after user op disk store list = record {
+adds-op : (before after : Seen) (user : ℕ) (op : LocalOp) (drops : List Blob)
+    → after.disk ≡ with_op before.disk (op_of user op) → after.store ≡ before.store
+    → after.list ≡ listed_as false before.list drops → Adds before after (adds_local op) 0 (length drops)
+adds-op before after user op drops disk store list = record {
   trees = λ left is. exceeds-op before.disk user op left (subst (λ d. IsLeft d left) disk is);
   given = let same = ap (λ s. length s.given) store in omega (arith, same);
   entries = let same = ap (λ s. length s.entries) store in omega (arith, same);
-  next = let same = ap (λ l. l.next) list in omega (arith, same);
-  promised = ap (λ l. l.promised) list;
+  next = let same = ap (λ l. l.next) list ∙ listed-next false before.list drops in omega (arith, same);
+  promised = ap (λ l. l.promised) list ∙ listed-promised false before.list drops;
 }
 
 module _ (before after : Seen) where
@@ -182,8 +171,8 @@ module _ (before after : Seen) where
   adds-failed_op : (user : ℕ) (op : LocalOp) → IsFailedOp before after user op → Adds before after 0 0 0
   adds-failed_op user (MakeDir site) failed = adds-rests failed
   adds-failed_op user (Write site file bytes) failed =
-      adds-op before after user (Write site file failed.0) (ap (λ b. b.disk) failed.1) (ap (λ b. b.store) failed.1)
-      (ap (λ b. b.list) failed.1)
+      adds-op before after user (Write site file failed.0) [] (ap (λ b. b.disk) failed.1) (ap (λ b. b.store) failed.1)
+      (ap (λ b. b.list) failed.1 ∙ sym (listed_as-nothing false before.list))
   adds-failed_op user (RenameFile site from to) failed = adds-rests failed
   adds-failed_op user (RenameDir from to) failed = adds-rests failed
   adds-failed_op user (RemoveFile site file) failed = adds-rests failed
@@ -200,12 +189,22 @@ module _ (before after : Seen) where
   adds-failed Entries failed = adds-rests failed
   adds-failed (Add user class key) failed = adds-rests failed
   adds-failed (Remove user class) failed = adds-rests failed
+  adds-failed (Delete item tells) failed = adds-rests failed
 
   adds-done : (call : Call) (answer : Answer) → length before.store.entries ≤ max_places
       → Does before after call answer
-      → Adds before after (cost_of call).makes (cost_of call).draws (lists_done call)
+      → Adds before after (cost_of None call).makes (cost_of None call).draws
+      (length (drops_of before.places call) + finds_done call)
   adds-done (OpCall user op names) answer few does =
-      adds-op before after user op (ap (λ b. b.disk) does.1) (ap (λ b. b.store) does.1) (ap (λ b. b.list) does.1)
+      let adds = adds-op before after user op (dropped before.places user op) (ap (λ b. b.disk) does.1)
+      (ap (λ b. b.store) does.1) (ap (λ b. b.list) does.1) in
+      let next = adds.next in record {
+        trees = adds.trees;
+        given = adds.given;
+        entries = adds.entries;
+        next = omega (arith, next);
+        promised = adds.promised;
+      }
   adds-done Sync answer few does = record {
     trees = λ left is. exceeds-synced before.disk left (subst (λ b. IsLeft b.disk left) does.1 is);
     given = let same = ap (λ b. length b.store.given) does.1 in omega (arith, same);
@@ -247,69 +246,72 @@ module _ (before after : Seen) where
   adds-done (Remove user class) answer few does =
       adds-none before after (ap (λ b. b.disk) does.1) (ap (λ b. b.store) does.1) (ap (λ b. b.list.next) does.1)
       (ap (λ b. b.list.promised) does.1)
+  adds-done (Delete item tells) answer few does = record {
+    trees = λ left is. exceeds-none before.disk left (subst (λ b. IsLeft b.disk left) does.1 is);
+    given = let same = ap (λ b. length b.store.given) does.1 in omega (arith, same);
+    entries =
+        let same : length after.store.entries ≡ length (without before.store.entries item.blob) =
+        ap (λ b. length b.store.entries) does.1 in
+        let kept = length-filter (λ (entry : StoreEntry). not (same_bytes item.blob entry.blob)) before.store.entries
+        in let fewer = count_by-le-length (λ (entry : StoreEntry). not (same_bytes item.blob entry.blob))
+        before.store.entries in omega (arith, same, kept, fewer);
+    next = let same = ap (λ b. b.list.next) does.1 in omega (arith, same);
+    promised = ap (λ b. b.list.promised) does.1;
+  }
   adds-done Entries answer few does = record {
     trees = λ left is. exceeds-none before.disk left (subst (λ b. IsLeft b.disk left) does.1.2 is);
     given = let same = ap (λ b. length b.store.given) does.1.2 in omega (arith, same);
     entries = let same = ap (λ b. length b.store.entries) does.1.2 in omega (arith, same);
     next =
         let same = ap (λ b. b.list.next) does.1.2 in
-        let more = listed-next before.list does.1.0 in
+        let more = listed-next true before.list does.1.0 in
         let found = few-unnamed before.places (blobs_of before.store.entries) does.1.0 does.1.1 in
         let all = length-map before.store.entries (λ entry. entry.blob) in
         omega (arith, same, more, found, all, few);
-    promised = ap (λ b. b.list.promised) does.1.2 ∙ listed-promised before.list does.1.0;
+    promised = ap (λ b. b.list.promised) does.1.2 ∙ listed-promised true before.list does.1.0;
   }
 
   adds-made : (call : Call) (made : Made) → length before.store.entries ≤ max_places
       → IsMade before after call (Ok made)
-      → Adds before after (cost_made call made).makes (cost_made call made).draws (lists_made call made)
+      → Adds before after (cost_made call made).makes (cost_made call made).draws
+      (drops_made before.places call made + finds_made call made)
   adds-made call (Heard answer) few is_made = adds-done call answer few is_made
   adds-made call (Failed device) few is_made = adds-failed call is_made.1
 
--- what holds of what a Book holds, in numbers that the code can count
-pub record Bounds (book : Plain) : Type 0 where
-  pub given : length book.bench.store.given < 2 ^ 63
-  pub entries : length book.bench.store.entries ≤ max_places
-  -- the list has places for whatever a look at the keystore may find, and for what a failed command held
-  pub room : book.bench.list.next + book.bench.list.promised + length book.bench.store.entries < 2 ^ 63
-  pub room_held : book.bench.list.next + book.bench.list.promised + 2 < 2 ^ 63
-  pub places : map.len (view book.bench.disk) ≤ max_places
-
-pub small-bounds : (book : Plain) → IsSmall book → length book.docket.commands ≤ max_commands → Bounds book
-small-bounds book small commands =
-    let given = small.given in
-    let entries = small.entries in
-    let listed = small.listed in
-    let unpromised = small.unpromised in
-    let places = small.trees (view book.bench.disk) (view-left book.bench.disk) in record {
-      given = omega (arith, given, commands);
-      entries = omega (arith, entries, commands);
-      room = omega (arith, listed, unpromised, entries, commands);
-      room_held = omega (arith, listed, unpromised, commands);
-      places = omega (arith, places, commands);
-    }
+-- the user of the command has no more slots than there are places, and no more of them are to be tried
+pub record FewSlots (command : Command) (start : Start) : Type 0 where
+  pub tried : length (slots_for start.places command) ≤ max_places
+  pub owned : length (slots_of start.places (user_in command)) ≤ max_places
 
 -- what begins makes and lists no more than each number may
-first-few : (command : Command) (start : Start) (verdict : Option Reply) (task : Task)
+first-few : (command : Command) (start : Start) (verdict : Option Reply) (task : Task) → FewSlots command start
     → FirstTask command start verdict task
-    → (makes_in task ≤ 2) × (draws_in task ≤ 2) × (lists_in task ≤ max_places)
-first-few command start (Some reply) task first =
+    → (makes_in task ≤ 2) × (draws_in task ≤ 2) × (lists_in task ≤ most_listed)
+first-few command start (Some reply) task slots first =
     let makes = ap makes_in first in
     let draws = ap draws_in first in
     let lists = ap lists_in first in
     (omega (arith, makes), omega (arith, draws), omega (arith, lists))
-first-few command start None task first = by (user_in command) first
+first-few command start None task slots first = by (user_in command) refl first
   where
-    by : (user : Option ℕ) → AcceptedTask command start user task
-        → (makes_in task ≤ 2) × (draws_in task ≤ 2) × (lists_in task ≤ max_places)
-    by (Some user) first =
-        let makes = ap makes_in first.1 in
-        let draws = ap draws_in first.1 in
-        let lists = ap lists_in first.1 in
-        let few_makes = first.2.makes in
-        let few_draws = first.2.draws in
-        (omega (arith, makes, few_makes), omega (arith, draws, few_draws), omega (arith, lists))
-    by None first =
+    by : (user : Option ℕ) → user_in command ≡ user → AcceptedTask command start user task
+        → (makes_in task ≤ 2) × (draws_in task ≤ 2) × (lists_in task ≤ most_listed)
+    by (Some user) whose first =
+        let makes = ap makes_in first.2 in
+        let draws = ap draws_in first.2 in
+        let lists = ap lists_in first.2 in
+        let few_makes = first.4.makes in
+        let few_draws = first.4.draws in
+        let few = first.4.few in
+        let tried = ap length first.3.to_try in
+        let owned = ap length first.3.slots in
+        let few_tried = slots.tried in
+        let few_owned = slots.owned in (
+          omega (arith, makes, few_makes),
+          omega (arith, draws, few_draws),
+          omega (arith, lists, few, tried, owned, few_tried, few_owned),
+        )
+    by None whose first =
         let makes = ap makes_in first in
         let draws = ap draws_in first in
         let lists = ap lists_in first in
@@ -333,7 +335,7 @@ module _ (book : Plain) (small : IsSmall book) where
   small-docket : (book' : Plain) → LeavesSizes book.bench book'.bench
       → ((made : ℕ) → within book.docket 2 draws_of made → within book'.docket 2 draws_of made)
       → ((made : ℕ) → within book.docket 2 makes_of made → within book'.docket 2 makes_of made)
-      → ((made : ℕ) → within book.docket max_places lists_of made → within book'.docket max_places lists_of made)
+      → ((made : ℕ) → within book.docket most_listed lists_of made → within book'.docket most_listed lists_of made)
       → IsSmall book'
   small-docket book' sizes draws makes lists = record {
     given = subst (λ store. within book'.docket 2 draws_of (length store.given)) (sym sizes.store)
@@ -341,20 +343,21 @@ module _ (book : Plain) (small : IsSmall book) where
     entries = subst (λ store. within book'.docket 2 draws_of (length store.entries)) (sym sizes.store)
         (draws (length book.bench.store.entries) small.entries);
     trees = λ left is. makes (map.len left) (small.trees left (subst (λ disk. IsLeft disk left) sizes.disk is));
-    listed = subst (λ next. within book'.docket max_places lists_of next) (sym sizes.next)
+    listed = subst (λ next. within book'.docket most_listed lists_of next) (sym sizes.next)
         (lists book.bench.list.next small.listed);
     unpromised = sizes.promised;
   }
 
   pub small-begun : (actor : Actor) (begins : Beginning) (start : Start) (verdict : Option Reply)
       → map.get book.docket.waiting actor ≡ Some (begins.number ∷ begins.numbers)
-      → FirstTask begins.command start verdict begins.task → IsSmall (begun_plain book actor begins)
-  small-begun actor begins start verdict queue first =
+      → FewSlots begins.command start → FirstTask begins.command start verdict begins.task
+      → IsSmall (begun_plain book actor begins)
+  small-begun actor begins start verdict queue slots first =
       small-docket (begun_plain book actor begins) (begun-sizes begins.task book.bench small.unpromised)
-      (fits 2 draws_of few.1) (fits 2 makes_of few.0) (fits max_places lists_of few.2)
+      (fits 2 draws_of few.1) (fits 2 makes_of few.0) (fits most_listed lists_of few.2)
     where
-      few : (makes_in begins.task ≤ 2) × (draws_in begins.task ≤ 2) × (lists_in begins.task ≤ max_places)
-      few = first-few begins.command start verdict begins.task first
+      few : (makes_in begins.task ≤ 2) × (draws_in begins.task ≤ 2) × (lists_in begins.task ≤ most_listed)
+      few = first-few begins.command start verdict begins.task slots first
 
       fits : (each : ℕ) (of : Running → ℕ) → of (work_of begins) ≤ each → (made : ℕ)
           → within book.docket each of made
@@ -364,14 +367,15 @@ module _ (book : Plain) (small : IsSmall book) where
 
   module _ (actor : Actor) (it : Running) (runs : map.get book.docket.running actor ≡ Some it) where
     -- a call was made
-    module _ (making : Making) (made : Made) (after : Seen)
+    module _ (making : Making) (made : Made) (after : Seen) (notes : Notes)
         (shows : CallFalls book.bench.places after.places making.call made it.task making.then)
         (is_made : IsMade book.bench after making.call (Ok made))
         (commands : length book.docket.commands ≤ max_commands) where
       abbrev then : Running
-      then = record { number = it.number; task = making.then }
+      then = record { number = it.number; task = making.then; owed = notes.owed }
 
-      pub small-called : IsSmall (after_call book actor it.number making made after)
+      pub small-called : IsSmall (after_call book actor it.number (record making { owed = notes.owed }) made
+          notes.marks after)
       small-called =
           let bounds = small-bounds book small commands in
           let adds = adds-made book.bench after making.call made bounds.entries is_made in
@@ -390,7 +394,7 @@ module _ (book : Plain) (small : IsSmall book) where
                 let few = exceeds.few in
                 within-set book.docket 2 makes_of (map.len exceeds.from) (small.trees exceeds.from exceeds.is) actor
                 it then (map.len left) runs (omega (arith, few, makes));
-            listed = within-set book.docket max_places lists_of book.bench.list.next small.listed actor it then
+            listed = within-set book.docket most_listed lists_of book.bench.list.next small.listed actor it then
                 after.list.next runs (omega (arith, next, lists));
             unpromised = adds.promised ∙ small.unpromised;
           }
@@ -399,16 +403,16 @@ module _ (book : Plain) (small : IsSmall book) where
     pub small-replied : (command : Command) (reply : Reply) → IsSmall (replied_plain book actor it command reply)
     small-replied command reply =
         let told = lists-told it.task in
-        let next = listed-next book.bench.list (lists_with it.task) in record {
+        let next = listed-next true book.bench.list (lists_with it.task) in record {
           given = within-removed book.docket 2 draws_of (length book.bench.store.given) small.given actor it
               (length book.bench.store.given) runs (omega arith);
           entries = within-removed book.docket 2 draws_of (length book.bench.store.entries) small.entries actor it
               (length book.bench.store.entries) runs (omega arith);
           trees = λ left is. within-removed book.docket 2 makes_of (map.len left) (small.trees left is) actor it
               (map.len left) runs (omega arith);
-          listed = within-removed book.docket max_places lists_of book.bench.list.next small.listed actor it
+          listed = within-removed book.docket most_listed lists_of book.bench.list.next small.listed actor it
               (listed book.bench.list (lists_with it.task)).next runs (omega (arith, next, told));
-          unpromised = listed-promised book.bench.list (lists_with it.task) ∙ small.unpromised;
+          unpromised = listed-promised true book.bench.list (lists_with it.task) ∙ small.unpromised;
         }
 
   -- a command got its number, and waits last
@@ -416,7 +420,7 @@ module _ (book : Plain) (small : IsSmall book) where
   small-given command =
       small-docket (with_command book command)
       (record { disk = refl; store = refl; next = refl; promised = small.unpromised }) (queued 2 draws_of)
-      (queued 2 makes_of) (queued max_places lists_of)
+      (queued 2 makes_of) (queued most_listed lists_of)
     where
       queued : (each : ℕ) (of : Running → ℕ) (made : ℕ) → within book.docket each of made
           → within (docket_with book.docket (actor_of command) command) each of made
@@ -442,8 +446,8 @@ module _ (book : Plain) (small : IsSmall book) where
         within-stopped book.docket 2 makes_of (map.len left)
         (within-less book.docket 2 makes_of (map.len exceeds.from) (small.trees exceeds.from exceeds.is) (map.len left)
         (omega (arith, few)));
-    listed = subst (λ l. within (record book.docket { running = map.empty }) max_places lists_of l.next) (sym list)
-        (within-stopped book.docket max_places lists_of book.bench.list.next small.listed);
+    listed = subst (λ l. within (record book.docket { running = map.empty }) most_listed lists_of l.next) (sym list)
+        (within-stopped book.docket most_listed lists_of book.bench.list.next small.listed);
     unpromised = ap (λ l. l.promised) list;
   }
 
@@ -455,7 +459,7 @@ module _ (book : Plain) (small : IsSmall book) where
         store = ap (λ b. b.store) same;
         next = ap (λ b. b.list.next) same;
         promised = ap (λ b. b.list.promised) same ∙ small.unpromised;
-      }) (queued 2 draws_of) (queued 2 makes_of) (queued max_places lists_of)
+      }) (queued 2 draws_of) (queued 2 makes_of) (queued most_listed lists_of)
     where
       queued : (each : ℕ) (of : Running → ℕ) (made : ℕ) → within book.docket each of made
           → within (record (with_first_command book.docket Boot Recover) { begun = map.empty }) each of made
@@ -473,7 +477,7 @@ small-opened bench opened seed level disk store list = record {
   trees = λ left is.
       let same = left-still map.empty left (subst (λ d. IsLeft d left) disk is) in
       nothing 2 makes_of (map.len left) (ap (λ (t : Tree). map.len t) same ∙ map.len-empty place_cmp Files);
-  listed = nothing max_places lists_of bench.list.next (ap (λ l. l.next) list);
+  listed = nothing most_listed lists_of bench.list.next (ap (λ l. l.next) list);
   unpromised = ap (λ l. l.promised) list;
 }
   where

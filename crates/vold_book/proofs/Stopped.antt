@@ -146,6 +146,9 @@ module _ (book : Plain) (whole : Whole book) where
       all = whole.all;
       phase = phase-docket given refl book.tracker.phase whole.phase;
       clean = steady.clean;
+      numbered = steady.numbered;
+      swept = steady.swept;
+      ended = steady.ended;
       small = steady.small;
       charged = steady.charged;
     }
@@ -271,10 +274,13 @@ module _ (tree_counts store_counts ring_counts : Counts) (seed : List ℕ) where
         };
         run = λ actor it at. absurd (none-some it (sym (map.get-empty actor_cmp actor) ∙ at));
         all = λ n b at. absurd (none-on n b at);
-        phase = record {
-          there = λ place. ap is_some (map.get-empty {X = Option (List ℕ)} place_cmp place)
-              ∙ sym (ap is_some (map.get-empty {X = Files} place_cmp place));
-          names = λ place lasting. map.get-empty {X = Option (List ℕ)} place_cmp place
-              ∙ sym (ap named_in (map.get-empty {X = Files} place_cmp place));
-        };
+        phase = (
+          record {
+            there = λ place. ap is_some (map.get-empty {X = Option (List ℕ)} place_cmp place)
+                ∙ sym (ap is_some (map.get-empty {X = Files} place_cmp place));
+            names = λ place lasting. map.get-empty {X = Option (List ℕ)} place_cmp place
+                ∙ sym (ap named_in (map.get-empty {X = Files} place_cmp place));
+          },
+          λ user there unmarked. tt,
+        );
       })

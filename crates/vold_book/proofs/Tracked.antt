@@ -13,12 +13,14 @@ use Rattle.tree_model.specs.Sites.{op_of}
 use Rattle.journal_model.specs.declared.entries.Change.{Change}
 use Rattle.journal_model.specs.declared.entries.Entry.{Entry}
 use Rattle.journal_model.specs.declared.entries.Entry.TheVariants.{Began, Changed, Synced, Installed, Evicted}
+use Rattle.journal_model.specs.declared.entries.Entry.TheVariants.{Swept}
 use Rattle.journal_model.specs.declared.entries.Entry.TheVariants.{Stopped, Restarted, Replied}
 use Rattle.journal_model.specs.Machine.{Machine, after_entry, machine_from, machine_after, first_machine}
 use Rattle.task_turns.specs.declared.calls.Answer.{Answer}
 use Rattle.task_turns.specs.declared.calls.Call.{Call}
 use Rattle.task_turns.specs.declared.calls.Call.TheVariants.{Op as OpCall, Sync, List as ListCall, Read}
 use Rattle.task_turns.specs.declared.calls.Call.TheVariants.{Generate, Encrypt, Decrypt, Entries, Add, Remove}
+use Rattle.task_turns.specs.declared.calls.Call.TheVariants.{Delete}
 use Rattle.tree_model.specs.declared.blobs.Blob.{Blob}
 use Rattle.bench.specs.declared.made.Made.{Made}
 use Rattle.bench.specs.declared.made.Made.TheVariants.{Heard, Failed}
@@ -99,6 +101,7 @@ module _ (before after : Seen) (tracker : TrackerState)
   done-pending Entries answer change told done = same_disk (ap (λ b. b.disk) done.1.2)
   done-pending (Add user class key) answer change told done = same_disk (ap (λ b. b.disk) done.1)
   done-pending (Remove user class) answer change told done = same_disk (ap (λ b. b.disk) done.1)
+  done-pending (Delete item tells) answer change told done = same_disk (ap (λ b. b.disk) done.1)
 
   failed-pending : (call : Call) (change : Bool) → IsFailed before after call
       → (noted false call change tracker).pending ≡ changes_made after.disk.stable after.disk.pending
@@ -112,6 +115,7 @@ module _ (before after : Seen) (tracker : TrackerState)
   failed-pending Entries change failed = same_disk (ap (λ b. b.disk) failed)
   failed-pending (Add user class key) change failed = same_disk (ap (λ b. b.disk) failed)
   failed-pending (Remove user class) change failed = same_disk (ap (λ b. b.disk) failed)
+  failed-pending (Delete item tells) change failed = same_disk (ap (λ b. b.disk) failed)
 
   -- the pending operations follow a call, whether the device did it or failed
   pub pending-noted : (call : Call) (change : Bool) (made : Made) → ChangeIsTold (view before.disk) call change
@@ -138,6 +142,7 @@ noted-stays true (Decrypt blob app_id text) change tracker = record { phase = re
 noted-stays true Entries change tracker = record { phase = refl; boot = refl; level = refl }
 noted-stays true (Add user class key) change tracker = record { phase = refl; boot = refl; level = refl }
 noted-stays true (Remove user class) change tracker = record { phase = refl; boot = refl; level = refl }
+noted-stays true (Delete item tells) change tracker = record { phase = refl; boot = refl; level = refl }
 noted-stays false (OpCall user (MakeDir site) names) change tracker =
     record { phase = refl; boot = refl; level = refl }
 noted-stays false (OpCall user (Write site file bytes) names) change tracker =
@@ -159,6 +164,7 @@ noted-stays false (Decrypt blob app_id text) change tracker = record { phase = r
 noted-stays false Entries change tracker = record { phase = refl; boot = refl; level = refl }
 noted-stays false (Add user class key) change tracker = record { phase = refl; boot = refl; level = refl }
 noted-stays false (Remove user class) change tracker = record { phase = refl; boot = refl; level = refl }
+noted-stays false (Delete item tells) change tracker = record { phase = refl; boot = refl; level = refl }
 
 -- a failed call leaves what is durable
 pub failed-durable : (call : Call) (change : Bool) (tracker : TrackerState)
@@ -178,6 +184,7 @@ failed-durable (Decrypt blob app_id text) change tracker = refl
 failed-durable Entries change tracker = refl
 failed-durable (Add user class key) change tracker = refl
 failed-durable (Remove user class) change tracker = refl
+failed-durable (Delete item tells) change tracker = refl
 
 shorter : (n : ℕ) (changes : List Change) → length (take n changes) ≤ length changes
 shorter zero changes = omega arith
@@ -191,6 +198,7 @@ log-entry before machine (Changed n change) = omega (arith, length-append machin
 log-entry before machine Synced = omega arith
 log-entry before machine (Installed user class) = omega arith
 log-entry before machine (Evicted user class) = omega arith
+log-entry before machine (Swept blob) = omega arith
 log-entry before machine (Stopped kept) = let short = shorter kept machine.log in omega (arith, short)
 log-entry before machine (Restarted boot level) = omega arith
 log-entry before machine (Replied n reply) = omega arith

@@ -2,13 +2,14 @@
 use Rattle.std.specs.Prelude.{ℕ, List, Option, Some, None}
 use Rattle.journal_model.specs.declared.entries.Entry.{Entry}
 use Rattle.journal_model.specs.declared.entries.Entry.TheVariants.{Changed, Synced, Installed, Evicted}
+use Rattle.journal_model.specs.declared.entries.Entry.TheVariants.{Swept}
 use Rattle.journal_model.specs.Machine.{Machine, after_entry, MayCome}
 use Rattle.user_world.specs.declared.changes.LocalChange.{LocalChange}
 use Rattle.user_world.specs.Changes.{change_of}
 use Rattle.key_directory.specs.Tried.{attempts_after}
 use Rattle.key_directory.specs.Vaults.{Attempts}
 use Rattle.task_turns.specs.declared.calls.Call.{Call}
-use Rattle.task_turns.specs.declared.calls.Call.TheVariants.{Op, Sync, Add, Remove}
+use Rattle.task_turns.specs.declared.calls.Call.TheVariants.{Op, Sync, Add, Remove, Delete}
 use Rattle.bench.specs.declared.made.Made.{Made}
 use Rattle.bench.specs.declared.made.Made.TheVariants.{Heard, Failed}
 
@@ -21,6 +22,7 @@ entry_of number (Op user op names) change = changed_entry number user change
 entry_of number Sync change = Some Synced
 entry_of number (Add user class key) change = Some (Installed user class)
 entry_of number (Remove user class) change = Some (Evicted user class)
+entry_of number (Delete item tells) change = Some (Swept item.blob)
 entry_of number call change = None
 
 -- a call that failed has none

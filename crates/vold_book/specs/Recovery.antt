@@ -7,8 +7,11 @@ use Rattle.tree_model.specs.declared.blobs.Blob.{Blob}
 use Rattle.tree_model.specs.declared.ops.Op.{Op as DiskOp}
 use Rattle.tree_model.specs.declared.places.Place.{Place}
 use Rattle.tree_model.specs.declared.sites.LocalOp.{LocalOp}
+use Rattle.tree_model.specs.declared.sites.LocalOp.TheVariants.{RemoveDir}
+use Rattle.tree_model.specs.declared.sites.Site.{Site}
 use Rattle.tree_model.specs.Disk.{view, with_op}
-use Rattle.tree_model.specs.Named.{IsNamed}
+use Rattle.tree_model.specs.Named.{IsNamed, PartNames}
+use Rattle.tree_model.specs.Parts.{after_local}
 use Rattle.tree_model.specs.Sites.{op_of}
 use Rattle.tree_model.specs.Tree.{Tree}
 use Rattle.journal_model.specs.declared.commands.Reply.{Reply}
@@ -25,12 +28,12 @@ use Rattle.key_directory.specs.Vaults.{sealed}
 use Rattle.step_core.specs.Table.{NamedPlaces, named_by}
 use Rattle.task_turns.specs.declared.calls.Call.{Call}
 use Rattle.task_turns.specs.declared.calls.Call.TheVariants.{Op, Sync, List as ListCall, Read, Generate, Encrypt}
-use Rattle.task_turns.specs.declared.calls.Call.TheVariants.{Decrypt, Entries, Add, Remove}
+use Rattle.task_turns.specs.declared.calls.Call.TheVariants.{Decrypt, Entries, Add, Remove, Delete}
 use Rattle.task_turns.specs.declared.next.Next.{Next}
 use Rattle.task_turns.specs.declared.next.Next.TheVariants.{Call as CallNext, Work as WorkNext, Reply as ReplyNext}
 use Rattle.task_turns.specs.Names.{Gains, Brings}
 use Rattle.task_turns.specs.Turns.{cost_of}
-use Rattle.bench.specs.Bench.{KnowsPlaces, places_after, named_in, AreUnnamed, listed}
+use Rattle.bench.specs.Bench.{KnowsPlaces, places_after, dropped, named_in, AreUnnamed, listed}
 use Rattle.vold_book.specs.declared.recovery.Recovery.{Recovery}
 use Rattle.vold_book.specs.declared.recovery.Recovery.TheVariants.{Listing, Sweeping, Reading, Settled, Listed}
 use Rattle.vold_book.specs.State.{Ground}
@@ -134,15 +137,21 @@ next_read None false = CallNext Entries None
 -- counting for one
 pub record Comes (before : Ground) (recovery : Recovery) (call : Call) (after : Ground) : Type 0 where
   pub rests : RecoveryRests after (recovery_after call recovery)
-  pub falls : recovery_left after.places (recovery_after call recovery) + (cost_of call).makes
-      < recovery_left before.places recovery + (cost_of call).takes
+  pub falls : recovery_left after.places (recovery_after call recovery) + (cost_of None call).makes
+      < recovery_left before.places recovery + (cost_of None call).takes
 
--- an operation keeps its user's world, and none of the user's directories names another blob then
+-- an operation removes a directory, keeps its user's world, the user's directories go on naming what they named, and
+-- nothing else, and it lists nothing
 pub record SweepShows (ground : Ground) (recovery : Recovery) (owner : ℕ) (op : LocalOp) (names : Option Blob) :
     Type 0 where
+  pub site : Site
+  pub removes : op ≡ RemoveDir site
   pub step : StepShows (sealed ground.vault) owner (own_of owner ground.line) (quiet op) []
   pub brings : Brings (own_view (own_of owner ground.line)) op names
   pub gained : Gains (own_of owner ground.line) op []
+  pub keeps : (blob : Blob) → PartNames (own_view (own_of owner ground.line)) blob
+      → PartNames (after_local (own_view (own_of owner ground.line)) op) blob
+  pub lists : dropped ground.places owner op ≡ []
   pub comes : Comes ground recovery (Op owner op names) (operated ground owner op names)
 
 -- what no directory names is listed, once it is known what each names
@@ -165,6 +174,7 @@ RecoveryCalls ground recovery (Encrypt blob app_id nonce key) = ⊥
 RecoveryCalls ground recovery (Decrypt blob app_id text) = ⊥
 RecoveryCalls ground recovery (Add user class key) = ⊥
 RecoveryCalls ground recovery (Remove user class) = ⊥
+RecoveryCalls ground recovery (Delete item tells) = ⊥
 RecoveryCalls ground recovery Entries = EntriesShow ground recovery
 
 -- it ends only where nothing is half made in the view, nothing else can come of a stop, and every blob is placed

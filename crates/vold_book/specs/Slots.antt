@@ -2,7 +2,6 @@
 -- left for a further secret, and which.
 use Rattle.std.specs.Prelude.{ℕ, ◌==◌, ◌^◌, ◌&&◌, nat_le, Bool, false, is_some, cond, List, [], ◌∷◌, ◌++◌}
 use Rattle.std.specs.Prelude.{Option, Some, None}
-use Rattle.std.specs.List.{flat_map}
 use Rattle.std.specs.FinMap as map
 use Rattle.tree_model.specs.declared.places.Place.{Place}
 use Rattle.tree_model.specs.declared.places.Place.TheVariants.{De, Ce}
@@ -13,6 +12,7 @@ use Rattle.journal_model.specs.declared.commands.Command.TheVariants.{Unlock, Pr
 use Rattle.journal_model.specs.Users.{leave_none, next_number}
 use Rattle.key_directory.specs.Opened.{fits_secret}
 use Rattle.step_core.specs.Table.{NamedPlaces, named_by}
+use Rattle.bench.specs.Slots.{slots_known}
 
 -- the slot of a place, where it is one of the user's that may open with the secret
 abbrev pub slot_at : NamedPlaces → ℕ → List ℕ → Place → List Slot
@@ -31,14 +31,14 @@ slots_for places (Unlock user secret) = slots_in places user secret (map.keys pl
 slots_for places (Protect user given fresh) = slots_in places user given (map.keys places)
 slots_for places command = []
 
--- the slot of a place, where it is one of the user's
-abbrev pub slot_of : ℕ → Place → List Slot
-slot_of user (Ce owner slot) = cond (owner == user) (slot ∷ []) []
-slot_of user place = []
+-- all slots of a user, if there is one; and the last of slots in their order, or of none the current one
+abbrev pub slots_of : NamedPlaces → Option ℕ → List Slot
+slots_of places None = []
+slots_of places (Some user) = slots_known places user
 
--- all slots of a user
-abbrev pub slots_known : NamedPlaces → ℕ → List Slot
-slots_known places user = flat_map (slot_of user) (map.keys places)
+abbrev pub last_slot : Slot → List Slot → Slot
+last_slot slot [] = slot
+last_slot slot (next ∷ slots) = last_slot next slots
 
 -- whether none is left for a further secret of the user, if there is one: of a user who is there
 abbrev pub is_full : NamedPlaces → Option ℕ → Bool

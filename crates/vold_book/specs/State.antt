@@ -1,5 +1,6 @@
 -- What contracts see of a Book.
-use Rattle.std.specs.Prelude.{ℕ, List}
+use Rattle.std.specs.Prelude.{ℕ, List, drop}
+use Rattle.tree_model.specs.declared.blobs.Blob.{Blob}
 use Rattle.tree_model.specs.Disk.{Disk}
 use Rattle.key_ring.specs.Ring.{Ring, key_of}
 use Rattle.tree_model.specs.Counted.{Counts}
@@ -7,14 +8,14 @@ use Rattle.journal_model.specs.declared.commands.Actor.{Actor}
 use Rattle.journal_model.specs.declared.commands.Command.{Command}
 use Rattle.journal_model.specs.declared.phase.Phase.{Phase}
 use Rattle.journal_model.specs.Actor.{actor_cmp}
-use Rattle.journal_model.specs.Machine.{Machine, machine_after}
+use Rattle.journal_model.specs.Machine.{Machine, machine_after, NoChangeOf}
 use Rattle.docket.specs.Docket.{DocketState, StoredDocket, docket_of}
 use Rattle.deferred_delete.specs.Deferral.{Deferral}
 use Rattle.keystore_model.specs.Store.{Store}
 use Rattle.user_world.specs.Timelines.{Timeline, own_of}
 use Rattle.key_directory.specs.Tried.{attempts_of}
 use Rattle.key_directory.specs.Vaults.{Vault, Attempts}
-use Rattle.step_core.specs.Table.{NamedPlaces}
+use Rattle.step_core.specs.Table.{NamedPlaces, Users}
 use Rattle.task_turns.specs.Shares.{Share}
 use Rattle.bench.specs.Bench.{BenchState, Senses, Plain as Seen, seen as bench_seen}
 use Rattle.vold_book.specs.declared.opened.Opened.{Opened}
@@ -45,6 +46,8 @@ pub record BookState (B : Type 0) : Type 0 where
   -- the script's, and that of this boot
   pub seed : List ℕ
   pub boot_seed : List ℕ
+  -- the users who are marked as having a change that may not be durable
+  pub marks : Users
   pub ledger : LedgerState
   pub docket : Docket
   pub tracker : TrackerState
@@ -59,6 +62,7 @@ pub record Parts (D E F : Type 0) : Type 0 where
   pub opened : Opened
   pub seed : List ℕ
   pub boot_seed : List ℕ
+  pub marks : Users
   pub ledger : LedgerState
   pub docket : StoredDocket Actor Command Running
   pub tracker : TrackerState
@@ -75,6 +79,7 @@ book_of parts = record {
   opened = parts.opened;
   seed = parts.seed;
   boot_seed = parts.boot_seed;
+  marks = parts.marks;
   ledger = parts.ledger;
   docket = docket_of actor_cmp parts.docket;
   tracker = parts.tracker;
@@ -90,6 +95,7 @@ over book bench = record {
   opened = book.opened;
   seed = book.seed;
   boot_seed = book.boot_seed;
+  marks = book.marks;
   ledger = book.ledger;
   docket = book.docket;
   tracker = book.tracker;
@@ -106,6 +112,10 @@ machine_of book = machine_after book.ledger.entries
 abbrev pub timeline : Disk → Machine → Timeline
 timeline disk machine = record { disk = disk; kept = machine.kept; log = machine.log }
 
+-- every change of the user's is durable
+abbrev pub AllDurable : Timeline → ℕ → Type 0
+AllDurable line user = NoChangeOf user (drop line.kept line.log)
+
 -- what was tried with secrets, by user, as the journal tells it
 abbrev pub tried_in : {B : Type 0} → BookState B → ℕ → Attempts
 tried_in book = attempts_of book.seed book.ledger.entries
@@ -116,12 +126,13 @@ vault_of tried seed store =
     record { entries = store.entries; level = store.level; seed = seed; attempts = tried }
 
 -- what tasks rest on: the machine's phase and boot, the disk with its changes, what directories are opened with, the
--- keys in the ring, the known places and the list of waiting deletes
+-- blobs that the keystore ever gave, the keys in the ring, the known places and the list of waiting deletes
 pub record Ground : Type 0 where
   pub phase : Phase
   pub boot : ℕ
   pub line : Timeline
   pub vault : Vault
+  pub given : List Blob
   pub keys : Ring
   pub places : NamedPlaces
   pub list : Deferral
@@ -132,6 +143,7 @@ ground_at tried seed bench machine = record {
   boot = machine.boot;
   line = timeline bench.disk machine;
   vault = vault_of tried seed bench.store;
+  given = bench.store.given;
   keys = bench.keys;
   places = bench.places;
   list = bench.list;

@@ -57,7 +57,7 @@ pub record CallsOn {D E F : Type 0} (senses : Senses D E F) (before after : Book
   pub it : Running
   pub making : Making
   pub plans : Plans (seen senses before) actor it making.task (CallNext making.call making.change)
-  pub makes : Makes senses before after actor it.number making
+  pub makes : Makes senses before after actor it making
 
 -- and the reply that was planned was given
 pub record RepliesOn {D E F : Type 0} (senses : Senses D E F) (before after : BookState (BenchState D E F))

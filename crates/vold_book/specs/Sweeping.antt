@@ -11,7 +11,7 @@ use Rattle.tree_model.specs.Tree.{Tree}
 use Rattle.tree_model.specs.Sites.{place_of}
 use Rattle.step_core.specs.Table.{NamedPlaces}
 use Rattle.bench.specs.Known.{Knows}
-use Rattle.user_tasks.specs.Clearing.{IsInTheWay as IsSiteInTheWay}
+use Rattle.user_tasks.specs.Looks.{IsInTheWay as IsSiteInTheWay}
 
 -- no place that is there is such a one, or none below this one
 abbrev pub NoneLeft : NamedPlaces → (Place → Type 0) → Type 0

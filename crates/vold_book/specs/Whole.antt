@@ -1,15 +1,20 @@
 -- When a Book is whole: its journal is legal, what it tracks agrees with the machine and the devices, every tree that
 -- a stop can leave stands for a prefix of the changes, each key in the ring is a made one, no number is lost, each
--- running command stands where its task says, every live blob is named, held or listed, and replies that tell of a
--- failure are charged to failures of their devices.
+-- running command stands where its task says, every live blob is named, held or listed, what was deleted stays gone,
+-- nothing is left of a user whose end was answered, and replies that tell of a failure are charged to failures of
+-- their devices.
 use Rattle.std.specs.Prelude.{◌≡◌, ℕ, ◌+◌, ◌*◌, ◌-◌, ◌^◌, ◌≤◌, ◌⊎◌, List, [], ◌∷◌, length, Some, None, IsSomeAnd}
-use Rattle.std.specs.Prelude.{Contains, slice_get, unwrap_or}
-use Rattle.std.specs.List.{flat_map}
+use Rattle.std.specs.Prelude.{IsSome, true, false, nat_le, Contains, slice_get, unwrap_or}
+use Rattle.std.specs.List.{filter, flat_map}
 use Rattle.std.specs.FinMap as map
+use Rattle.std.specs.FinSet as set
 use Rattle.tree_model.specs.declared.blobs.Blob.{Blob}
+use Rattle.tree_model.specs.declared.places.Place.TheVariants.{De}
 use Rattle.tree_model.specs.Disk.{view}
 use Rattle.tree_model.specs.Tree.{Tree}
-use Rattle.keystore_model.specs.Store.{IsStore}
+use Rattle.deferred_delete.specs.declared.items.Item.{Item}
+use Rattle.deferred_delete.specs.Deferral.{IsNumbered}
+use Rattle.keystore_model.specs.Store.{Store, IsStore, entry_of}
 use Rattle.blob_custody.specs.Custody.{Custody, IsClean, IsLeft}
 use Rattle.journal_model.specs.declared.commands.Actor.{Actor}
 use Rattle.journal_model.specs.declared.commands.Actor.TheVariants.{Boot}
@@ -26,15 +31,16 @@ use Rattle.journal_model.specs.declared.phase.Phase.TheVariants.{Up, Down, Halte
 use Rattle.journal_model.specs.Actor.{actor_cmp}
 use Rattle.journal_model.specs.Command.{actor_of}
 use Rattle.journal_model.specs.Machine.{Machine, Running as BeganCommand, IsLegal, IsDurable, begun_by, numbers_begun}
-use Rattle.journal_model.specs.Machine.{is_up}
+use Rattle.journal_model.specs.Machine.{is_up, blobs_swept}
+use Rattle.journal_model.specs.Endings.{is_ended}
 use Rattle.journal_model.specs.Made.{boot_seed_of}
 use Rattle.sorted_map.specs.Sums.{total_by}
 use Rattle.docket.specs.Accounts.{Accounted}
 use Rattle.user_world.specs.Images.{ImagesStand}
-use Rattle.user_world.specs.Timelines.{OwnWorldsStand}
+use Rattle.user_world.specs.Timelines.{Timeline, OwnWorldsStand}
 use Rattle.key_directory.specs.Opened.{AreCurrent}
 use Rattle.key_directory.specs.Vaults.{sealed}
-use Rattle.step_core.specs.Table.{NamedPlaces}
+use Rattle.step_core.specs.Table.{NamedPlaces, Users}
 use Rattle.bench.specs.Bench.{BenchState, Senses, Plain as Seen, counts_of}
 use Rattle.bench.specs.Known.{Knows}
 use Rattle.user_tasks.specs.Tasks.{rest_of}
@@ -43,11 +49,12 @@ use Rattle.vold_book.specs.declared.recovery.Recovery.TheVariants.{Listed}
 use Rattle.vold_book.specs.declared.tasks.Running.{Running}
 use Rattle.vold_book.specs.declared.tasks.Task.{Task}
 use Rattle.vold_book.specs.declared.tasks.Task.TheVariants.{User, Recovery, Refusal, Fault}
+use Rattle.vold_book.specs.Endings.{LeavesNothing}
 use Rattle.vold_book.specs.Installed.{RingStands}
 use Rattle.vold_book.specs.Parts.{Agrees}
 use Rattle.vold_book.specs.Recovery.{max_commands, max_places, recovery_left}
 use Rattle.vold_book.specs.State.{Docket, BookState, Plain, seen, machine_of, timeline, ground_of, vault_of}
-use Rattle.vold_book.specs.State.{tried_in}
+use Rattle.vold_book.specs.State.{tried_in, AllDurable}
 use Rattle.vold_book.specs.Tasks.{RunsOn, held_in}
 
 -- a command that began is the one that its number was given to
@@ -81,10 +88,16 @@ abbrev pub AllRun : Machine → map.FinMap actor_cmp Running → Type 0
 AllRun machine running = (number : ℕ) (began : BeganCommand) → map.get machine.running number ≡ Some began
     → IsSomeAnd (map.get running (actor_of began.command)) (λ it. it.number ≡ number)
 
--- what stands by the phase: what the places of the view name is known; or every change is durable and nothing but a
--- recovery runs; or nothing runs, and nothing is pending
+-- a user who is there and isn't marked has no change that isn't durable
+abbrev pub MarksTell : Users → NamedPlaces → Timeline → Type 0
+MarksTell marks places line = (user : ℕ) → IsSome (map.get places (De user)) → set.contains marks user ≡ false
+    → AllDurable line user
+
+-- what stands by the phase: what the places of the view name is known, and who is marked; or every change is durable
+-- and nothing but a recovery runs; or nothing runs, and nothing is pending
 abbrev pub PhaseStands : Phase → Plain → Machine → Type 0
 PhaseStands Up book machine = Knows book.bench.places (view book.bench.disk)
+    × MarksTell book.marks book.bench.places (timeline book.bench.disk machine)
 PhaseStands Down book machine = IsDurable machine None
     × ((actor : Actor) (it : Running) → map.get book.docket.running actor ≡ Some it → actor ≡ Boot)
 PhaseStands Halted book machine =
@@ -165,7 +178,7 @@ draws_of it = draws_in it.task
 
 -- how many blobs it may still list
 abbrev pub lists_in : Task → ℕ
-lists_in (User task) = 2
+lists_in (User task) = (rest_of task).left + 2
 lists_in (Recovery Listed) = 0
 lists_in (Recovery recovery) = max_places
 lists_in (Refusal reply) = 0
@@ -174,6 +187,10 @@ lists_in (Fault device held) = 2
 abbrev pub lists_of : Running → ℕ
 lists_of it = lists_in it.task
 
+-- the most that a command lists: what it drops, and what it held
+abbrev pub most_listed : ℕ
+most_listed = 5 * max_places
+
 -- each number that was given out may make so many: what was made, what running commands may still make, and what
 -- those may that wait
 abbrev pub within : Docket → ℕ → (Running → ℕ) → ℕ → Type 0
@@ -181,12 +198,17 @@ within docket each of made =
     made + total_by of (map.values docket.running) + each * total_by length (map.values docket.waiting)
     ≤ each * length docket.commands
 
+-- the blob was given once, and has no entry
+pub record WasSwept (store : Store) (blob : Blob) : Type 0 where
+  pub given : Contains store.given blob
+  pub gone : entry_of store.entries blob ≡ None
+
 pub record IsSmall (book : Plain) : Type 0 where
   pub given : within book.docket 2 draws_of (length book.bench.store.given)
   pub entries : within book.docket 2 draws_of (length book.bench.store.entries)
   -- the directories of whatever tree a stop can leave
   pub trees : (left : Tree) → IsLeft book.bench.disk left → within book.docket 2 makes_of (map.len left)
-  pub listed : within book.docket max_places lists_of book.bench.list.next
+  pub listed : within book.docket most_listed lists_of book.bench.list.next
   -- a place of the list is promised within a turn alone
   pub unpromised : book.bench.list.promised ≡ 0
 
@@ -215,13 +237,24 @@ pub record Whole (book : Plain) : Type 0 where
   pub phase : PhaseStands book.tracker.phase book (machine_of book)
   -- each live blob is named, held or listed
   pub clean : IsClean (custody_of book)
+  -- the numbers of the list rise
+  pub numbered : IsNumbered book.bench.list
+  -- what was deleted was given once, and has no entry any more
+  pub swept : (blob : Blob) → Contains (blobs_swept book.ledger.entries) blob → WasSwept book.bench.store blob
+  -- of a user whose destroy was answered nothing is left, until a create of the user begins
+  pub ended : (user : ℕ) → is_ended book.ledger.entries user ≡ true → LeavesNothing book user
   pub small : IsSmall book
   pub charged : (device : Device) → IsCharged book device
 
 abbrev pub IsWhole : {D E F : Type 0} → Senses D E F → BookState (BenchState D E F) → Type 0
 IsWhole senses book = Whole (seen senses book)
 
--- how many turns a command has at most; each directory that it removes counts for itself
+-- how many of the items are still to be tried
+abbrev pub count_from : ℕ → List Item → ℕ
+count_from from items = length (filter (λ item. nat_le from item.number) items)
+
+-- how many turns a command has at most, a delete for each item that it is still to try; each directory that it removes
+-- counts for itself
 abbrev pub turns_of_task : NamedPlaces → Task → ℕ
 turns_of_task places (User task) = (rest_of task).left
 turns_of_task places (Recovery recovery) = recovery_left places recovery
@@ -229,11 +262,11 @@ turns_of_task places (Refusal reply) = 1
 turns_of_task places (Fault device held) = 1
 
 abbrev pub turns_of : NamedPlaces → Running → ℕ
-turns_of places it = turns_of_task places it.task
+turns_of places it = turns_of_task places it.task + count_from it.owed.from it.owed.items
 
 -- the most turns that a command has which waits, its beginning among them
 abbrev pub most_turns : ℕ
-most_turns = 3 * max_places + 40
+most_turns = 4 * max_places + 40
 
 -- a bound on the turns that can still be made without a further command: each directory that is there may have to be
 -- removed

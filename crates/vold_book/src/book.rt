@@ -1,32 +1,36 @@
-ghost use Rattle.bench.specs.Bench.{listed as listed_more};
-ghost use Rattle.vold_book.specs.Tasks.{blobs_in};
-ghost use Rattle.std.specs.Prelude.{◌≡◌, ◌≢◌, ◌+◌, ◌^◌, ◌↔◌, ◌<◌, ◌≤◌, [], Err, IsSome, IsNone, IsTrue};
-ghost use Rattle.std.specs.Prelude.{IfOk, OnOk, OnErr, length, slice_get, cond, Some, None};
+ghost use Rattle.std.specs.Prelude.{◌≡◌, ◌≢◌, ◌+◌, ◌^◌, ◌↔◌, ◌&&◌, ◌<◌, ◌≤◌, [], Err, IsSome, IsNone, IsTrue};
+ghost use Rattle.std.specs.Prelude.{IfOk, IfSome, OnOk, OnErr, length, cond, Some, None};
 ghost use Rattle.std.specs.FinMap as map;
-ghost use Rattle.journal_model.specs.Command.{user_in};
-ghost use Rattle.journal_model.specs.Machine.{TakesTurn, is_unlocked};
-ghost use Rattle.journal_model.specs.Refusals.{refusal_of};
-ghost use Rattle.journal_model.specs.declared.phase.Phase.TheVariants.{Up, Halted};
-ghost use Rattle.docket.specs.Docket.{begun_by, IsNextBusy};
-ghost use Rattle.keystore_model.specs.Store.{empty_store, listed};
+ghost use Rattle.std.specs.FinSet as set;
 ghost use Rattle.tree_model.specs.Counted.{IsCounted};
 ghost use Rattle.tree_model.specs.Disk.{view};
-ghost use Rattle.task_turns.specs.declared.next.Next.TheVariants.{Call as CallNext, Reply as ReplyNext};
+ghost use Rattle.keystore_model.specs.Store.{empty_store, listed};
+ghost use Rattle.journal_model.specs.declared.phase.Phase.TheVariants.{Up, Halted};
+ghost use Rattle.journal_model.specs.Command.{user_in};
+ghost use Rattle.journal_model.specs.Machine.{TakesTurn};
+ghost use Rattle.journal_model.specs.Refusals.{refusal_of};
+ghost use Rattle.docket.specs.Docket.{IsNextBusy};
+ghost use Rattle.bench.specs.Bench.{listed as listed_more};
+ghost use Rattle.vold_book.specs.Endings.{EndsDue, EndsGone};
+ghost use Rattle.vold_book.specs.Knowing.{IsKnown, IsTold, has_key_in, has_temp_in};
+ghost use Rattle.vold_book.specs.Listing.{ListsEnded, OwesOn};
+ghost use Rattle.vold_book.specs.Opening.{OpensFirst, KeepsOpened};
 ghost use Rattle.vold_book.specs.Recovery.{max_commands};
-ghost use Rattle.vold_book.specs.Slots.{slots_for, slot_next};
 ghost use Rattle.vold_book.specs.Stands.{standing_of, IsLooked};
 ghost use Rattle.vold_book.specs.State.{machine_of, seen, senses};
-ghost use Rattle.vold_book.specs.Steps.{IsStep, GoesOn, RepliesTo, IsPlanned, RepliesNext};
+ghost use Rattle.vold_book.specs.Steps.{IsStep, GoesOn, IsPlanned, RepliesNext};
 ghost use Rattle.vold_book.specs.Stops.{IsStopped, IsRestarted};
+ghost use Rattle.vold_book.specs.Tasks.{blobs_in};
 ghost use Rattle.vold_book.specs.Turns.{new_book, new_bench, opened_at, with_command, IsEnqueued, facts_in};
-ghost use Rattle.vold_book.specs.Turns.{user_there, AcceptedTask};
-ghost use Rattle.vold_book.specs.Turns.{FirstTask, unlisted, Begins, Answers, LeavesOthers, Falls, ComesUp, IsSame};
-ghost use Rattle.vold_book.specs.Turns.{OpensFirst};
+ghost use Rattle.vold_book.specs.Turns.{user_there, AcceptedTask, FirstTask, unlisted, Begins, Answers, LeavesOthers};
+ghost use Rattle.vold_book.specs.Turns.{Falls, ComesUp, IsSame, marks_with};
 ghost use Rattle.vold_book.specs.Whole.{IsWhole};
 
+use crate::calls::{self, Called};
 use crate::entries::entry_of;
 use crate::ledger::Ledger;
 use crate::opened::{Counted, Opened};
+use crate::owed::Owed;
 use crate::plans::{self, Plan, Planned};
 use crate::recovery::Recovery;
 use crate::standings::{self, Standing};
@@ -45,9 +49,10 @@ use key_ring::KeyRing;
 use keystore_model::{Keystore, Tag};
 use std::alloc::Global;
 use std::marker::Model;
+use step_core::Table;
 use task_turns::{Call, Next};
 use tree_model::{Blob, Bytes, Class, Cut, DevFault, Dir, NoMemory, Place, TreeDisk};
-use user_tasks::UserTask;
+use user_tasks::{Known, Looks, UserTask};
 use user_world::LocalChange;
 
 /// The most commands that a Book numbers.
@@ -102,6 +107,7 @@ impl<T: TreeDisk, K: Keystore, G: KeyRing> Model for Book<T, K, G> {
       opened = book.opened;
       seed = book.seed;
       boot_seed = book.bench.seed;
+      marks = book.bench.table.marks;
       ledger = book.ledger.now;
       docket = book.docket;
       tracker = book.tracker.now;
@@ -116,6 +122,7 @@ impl<T: TreeDisk, K: Keystore, G: KeyRing> Model for Book<T, K, G> {
       opened = book.opened;
       seed = book.seed;
       boot_seed = book.bench.seed;
+      marks = book.bench.table.marks;
       ledger = book.ledger.now;
       docket = book.docket;
       tracker = book.tracker.now;
@@ -211,11 +218,25 @@ impl<T: TreeDisk, K: Keystore, G: KeyRing> Book<T, K, G> {
         ensures others { OnOk result
             (LeavesOthers (seen (senses T.disk T.counts K.store K.counts G.ring G.counts) self.old)
             (seen (senses T.disk T.counts K.store K.counts G.ring G.counts) self.new) actor) }
+        ensures ends { OnOk result
+            (EndsDue (seen (senses T.disk T.counts K.store K.counts G.ring G.counts) self.old).bench
+            (seen (senses T.disk T.counts K.store K.counts G.ring G.counts) self.new).bench) }
+        ensures gone { OnOk result (EndsGone (seen (senses T.disk T.counts K.store K.counts G.ring G.counts) self.old)
+            (seen (senses T.disk T.counts K.store K.counts G.ring G.counts) self.new) actor) }
+        ensures lists { OnOk result (ListsEnded
+            (seen (senses T.disk T.counts K.store K.counts G.ring G.counts) self.old)
+            (seen (senses T.disk T.counts K.store K.counts G.ring G.counts) self.new) actor) }
+        ensures owes { OnOk result (OwesOn (seen (senses T.disk T.counts K.store K.counts G.ring G.counts) self.old)
+            (seen (senses T.disk T.counts K.store K.counts G.ring G.counts) self.new) actor) }
         ensures falls { IfOk result (Falls (seen (senses T.disk T.counts K.store K.counts G.ring G.counts) self.old)
             (seen (senses T.disk T.counts K.store K.counts G.ring G.counts) self.new)) }
         ensures ready { OnOk result (ComesUp (seen (senses T.disk T.counts K.store K.counts G.ring G.counts) self.old)
             (seen (senses T.disk T.counts K.store K.counts G.ring G.counts) self.new)) }
-        ensures opens { OnOk result (OpensFirst (seen (senses T.disk T.counts K.store K.counts G.ring G.counts) self.old)
+        ensures opens { OnOk result (OpensFirst
+            (seen (senses T.disk T.counts K.store K.counts G.ring G.counts) self.old)
+            (seen (senses T.disk T.counts K.store K.counts G.ring G.counts) self.new) actor) }
+        ensures keeps { OnOk result (KeepsOpened
+            (seen (senses T.disk T.counts K.store K.counts G.ring G.counts) self.old)
             (seen (senses T.disk T.counts K.store K.counts G.ring G.counts) self.new) actor) }
         ensures refused { OnErr result
             (IsSame (senses T.disk T.counts K.store K.counts G.ring G.counts) self.old self.new) }
@@ -266,7 +287,8 @@ impl<T: TreeDisk, K: Keystore, G: KeyRing> Book<T, K, G> {
         let task = self.first_task(&command, number, birth)?;
         self.ledger.reserve()?;
         let anew = task.begins_anew();
-        self.docket.begin(actor, Running { number, task })?;
+        let owed = Owed::nothing(self.alloc);
+        self.docket.begin(actor, Running { number, task, owed })?;
         begin_on(&mut self.bench, anew);
         self.ledger.enter(Entry::Began {
             number,
@@ -282,15 +304,15 @@ impl<T: TreeDisk, K: Keystore, G: KeyRing> Book<T, K, G> {
         ensures { IfOk result (FirstTask command.now (record {
           birth = birth;
           boot_seed = self.now.boot_seed;
-          slots = slots_for self.now.bench.places command.now;
-          next = slot_next self.now.bench.places command.now;
+          places = self.now.bench.places;
+          ring = (machine_of self.now).ring;
         })
             (refusal_of command.now (facts_in self.now.bench.places self.now command.now))) }
     {
         let facts = Facts {
             present: self.is_there(command.user()),
             crowded: crowds::is_crowded(&self.bench.table, &self.docket),
-            installed: self.is_unlocked(command.user()),
+            installed: self.has_key(command.user(), Class::Ce),
             full: slots::is_full(&self.bench.table, command.user()),
             ready: self.tracker.phase() == Phase::Up,
         };
@@ -306,18 +328,34 @@ impl<T: TreeDisk, K: Keystore, G: KeyRing> Book<T, K, G> {
         ensures { IfOk result (AcceptedTask command.now (record {
           birth = birth;
           boot_seed = self.now.boot_seed;
-          slots = slots_for self.now.bench.places command.now;
-          next = slot_next self.now.bench.places command.now;
+          places = self.now.bench.places;
+          ring = (machine_of self.now).ring;
         })
             (user_in command.now)) }
     {
-        let slots = slots::slots_for(self.alloc, &self.bench.table, command)?;
-        let next = slots::slot_next(&self.bench.table, command);
+        let known = self.known(command)?;
         let seed = &self.bench.seed;
-        match user_tasks::first(self.alloc, command, number, birth, seed, slots, next)? {
+        match user_tasks::first(self.alloc, command, number, birth, seed, known)? {
             Some(task) => Ok(Task::User(task)),
             None => Ok(Task::Recovery(Recovery::Listing)),
         }
+    }
+
+    /// What is known of the user whom a command is for.
+    fn known(&self, command: &Command) -> Result<Known, NoMemory>
+        ensures { IfOk result (IsKnown self.now.bench.places (machine_of self.now).ring command.now) }
+    {
+        let table = &self.bench.table;
+        let slots = slots::slots_known(self.alloc, table, command.user())?;
+        Ok(Known {
+            newest: slots::last_of(slots.as_slice()),
+            slots,
+            to_try: slots::slots_for(self.alloc, table, command)?,
+            next: slots::slot_next(table, command),
+            has_ce: self.has_key(command.user(), Class::Ce),
+            has_de: self.has_key(command.user(), Class::De),
+            has_temp: self.has_temp(command.user()),
+        })
     }
 
     /// Whether the user, if there is one, has a device key's directory.
@@ -330,12 +368,22 @@ impl<T: TreeDisk, K: Keystore, G: KeyRing> Book<T, K, G> {
         }
     }
 
-    /// Whether the user, if there is one, has a credential key in the ring.
-    fn is_unlocked(&self, user: Option<u32>) -> bool
-        ensures { result ≡ is_unlocked user (machine_of self.now).ring }
+    /// Whether the user, if there is one, has a temporary directory.
+    fn has_temp(&self, user: Option<u32>) -> bool
+        ensures { result ≡ has_temp_in self.now.bench.places user }
     {
         match user {
-            Some(user) => self.bench.ring.get(user, Class::Ce).is_some(),
+            Some(user) => self.bench.table.has(Place::Temp(user)),
+            None => false,
+        }
+    }
+
+    /// Whether the user, if there is one, has a key of this class in the ring.
+    fn has_key(&self, user: Option<u32>, class: Class) -> bool
+        ensures { result ≡ has_key_in (machine_of self.now).ring user class }
+    {
+        match user {
+            Some(user) => self.bench.ring.get(user, class).is_some(),
             None => false,
         }
     }
@@ -352,7 +400,10 @@ impl<T: TreeDisk, K: Keystore, G: KeyRing> Book<T, K, G> {
         let Planned { task, plan } = self.planned(actor)?;
         match plan {
             Plan::Call { call, change } => self.call(actor, task, call, change),
-            Plan::Reply(reply) => self.reply(actor, reply),
+            Plan::Reply(reply) => {
+                drop(task);
+                self.reply(actor, reply)
+            }
         }
     }
 
@@ -368,8 +419,8 @@ impl<T: TreeDisk, K: Keystore, G: KeyRing> Book<T, K, G> {
         };
         match &it.task {
             Task::User(task) => {
-                let site = sweeping::site_in_the_way(&self.bench.table, task.user());
-                plans::planned_user(self.alloc, task, site)
+                let looks = self.looks(task.user(), &it.owed);
+                plans::planned_user(self.alloc, task, &looks)
             }
             Task::Recovery(recovery) => {
                 let next = recovery.next(&self.bench.table, self.tracker.is_dirty());
@@ -377,6 +428,18 @@ impl<T: TreeDisk, K: Keystore, G: KeyRing> Book<T, K, G> {
             }
             Task::Refusal(reply) => Ok(plans::with_no_job(Next::Reply(*reply))),
             Task::Fault(device, _) => Ok(plans::with_no_job(Next::Reply(fault_of(*device)))),
+        }
+    }
+
+    /// What a turn of the user's command is told which listed this.
+    fn looks(&self, user: u32, owed: &Owed) -> Looks
+        ensures { IsTold (seen (senses T.disk T.counts K.store K.counts G.ring G.counts) self.now) user owed.now
+            result }
+    {
+        Looks {
+            in_the_way: sweeping::site_in_the_way(&self.bench.table, user),
+            durable: self.bench.table.has(Place::De(user)) && !self.bench.table.marked(user),
+            due: owed.due(&self.bench.list),
         }
     }
 
@@ -397,19 +460,31 @@ impl<T: TreeDisk, K: Keystore, G: KeyRing> Book<T, K, G> {
             (IsSame (senses T.disk T.counts K.store K.counts G.ring G.counts) self.old self.new) }
         ensures whole { IsWhole (senses T.disk T.counts K.store K.counts G.ring G.counts) self.new }
     {
-        self.ledger.reserve()?;
-        self.tracker.reserve()?;
-        let made = self.bench.make(self.alloc, &call)?;
-        let it = self.docket.set(actor, Running::none());
+        let Some(it) = self.docket.running(actor) else {
+            unreachable!()
+        };
+        let Ok(Called { made, more }) = calls::make(
+            self.alloc,
+            &mut self.bench,
+            &mut self.ledger,
+            &mut self.tracker,
+            &it.owed,
+            &call,
+        ) else {
+            drop(task);
+            return Err(NoMemory);
+        };
+        let it = self.docket.set(actor, Running::none(self.alloc));
         self.tracker.note(&call, made.was_done(), change.is_some());
+        mark_change(
+            &mut self.bench.table,
+            &call,
+            made.was_done(),
+            change.is_some(),
+        );
         let entry = entry_of(&made, &call, change, it.number);
         self.ledger.note(actor, entry);
-        let now = it.task.worked(task);
-        let running = Running {
-            number: it.number,
-            task: now.after(&call, made),
-        };
-        self.docket.set(actor, running);
+        drop(self.docket.set(actor, it.after(&call, task, made, more)));
         Ok(())
     }
 
@@ -680,6 +755,7 @@ fn begin_on<T: TreeDisk, K: Keystore, G: KeyRing>(bench: &mut Bench<T, K, G>, an
     ensures ring { bench.new.ring ≡ bench.old.ring }
     ensures seed { bench.new.seed ≡ bench.old.seed }
     ensures places { bench.new.table.places ≡ cond anew map.empty bench.old.table.places }
+    ensures marks { bench.new.table.marks ≡ cond anew set.empty bench.old.table.marks }
     ensures list { bench.new.list ≡ cond anew (unlisted bench.old.list) bench.old.list }
 {
     if anew {
@@ -703,4 +779,16 @@ fn list_held(list: &mut Deferred, held: Held) -> Result<(), NoMemory>
         list.push(blob, true);
     }
     Ok(())
+}
+
+/// Marks the user whose change a call made that was done.
+fn mark_change(table: &mut Table, call: &Call, done: bool, change: bool)
+    ensures { table.new
+        ≡ record table.old { marks = marks_with table.old.places table.old.marks call.now (done && change) } }
+{
+    if let Call::Op { user, .. } = call {
+        if done && change && table.has(Place::De(*user)) {
+            table.mark(*user);
+        }
+    }
 }

@@ -36,6 +36,7 @@ fn done_entry(call: &Call, change: Option<LocalChange>, number: u64) -> Option<E
             user: *user,
             class: *class,
         }),
+        Call::Delete { item, .. } => Some(Entry::Swept { blob: item.blob }),
         _ => None,
     }
 }

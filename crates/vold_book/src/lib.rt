@@ -4,10 +4,12 @@
 #![tactic(auto)]
 
 pub mod book;
+pub mod calls;
 pub mod crowds;
 pub mod entries;
 pub mod ledger;
 pub mod opened;
+pub mod owed;
 pub mod plans;
 pub mod recovery;
 pub mod run_end;

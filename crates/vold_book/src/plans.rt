@@ -6,8 +6,8 @@ use journal_model::Reply;
 use key_seal::perform;
 use std::alloc::Global;
 use task_turns::{Answer, Call, Next};
-use tree_model::{NoMemory, Site};
-use user_tasks::UserTask;
+use tree_model::NoMemory;
+use user_tasks::{Looks, UserTask};
 use user_world::LocalChange;
 
 /// What a command does next, but for a job.
@@ -30,18 +30,18 @@ pub struct Planned {
     pub plan: Plan,
 }
 
-/// What a user's task does next, where this is the first of the user's sites that is in the way; its jobs are done.
-pub fn planned_user(alloc: Global, task: &UserTask, site: Option<Site>) -> Result<Planned, NoMemory>
-    ensures { IfOk result (PlansUser task.now site) }
+/// What a user's task does next, with what its turn is told; its jobs are done.
+pub fn planned_user(alloc: Global, task: &UserTask, looks: &Looks) -> Result<Planned, NoMemory>
+    ensures { IfOk result (PlansUser task.now looks.now) }
 {
-    match task.next(alloc, site)? {
+    match task.next(alloc, *looks)? {
         Next::Work(job) => {
             let mut then = task.duplicate(alloc)?;
             let Ok(done) = perform(alloc, job) else {
                 return Err(NoMemory);
             };
             then.heard(Answer::Output(done.into_output()));
-            let Planned { task, plan } = planned_user(alloc, &then, site)?;
+            let Planned { task, plan } = planned_user(alloc, &then, looks)?;
             Ok(Planned {
                 task: Some(task.unwrap_or(then)),
                 plan,

@@ -3,7 +3,9 @@
 ghost use Rattle.std.specs.Prelude.{◌≡◌, length, IfOk, option_to_list};
 ghost use Rattle.std.specs.FinMap as map;
 ghost use Rattle.journal_model.specs.Users.{next_number};
-ghost use Rattle.vold_book.specs.Slots.{slot_at, slot_of, slots_in, slots_for, slots_known, is_full};
+ghost use Rattle.tree_model.specs.declared.places.Slot.TheVariants.{Current};
+ghost use Rattle.bench.specs.Slots.{slot_of, slots_known};
+ghost use Rattle.vold_book.specs.Slots.{slot_at, slots_in, slots_for, slots_of, last_slot, is_full};
 ghost use Rattle.vold_book.specs.Slots.{slot_numbered, slot_next};
 
 use journal_model::{Command, Secret, leaves_none, next_after};
@@ -56,6 +58,29 @@ pub fn is_full(table: &Table, user: Option<u32>) -> bool
     };
     let (count, next) = numbering(table, user);
     table.has(Place::De(user)) && leaves_none(count, next)
+}
+
+/// The user's slots, in their order.
+pub fn slots_known(alloc: Global, table: &Table, user: Option<u32>) -> Result<Vec<Slot>, NoMemory>
+    ensures { IfOk result (λ slots. slots.items ≡ slots_of table.now.places user) }
+{
+    let mut slots = Vec::new(alloc);
+    let Some(user) = user else {
+        return Ok(slots);
+    };
+    for place in table.places() {
+        if let Some(slot) = slot_of(user, *place) {
+            slots.push(slot)?;
+        }
+    }
+    Ok(slots)
+}
+
+/// The last of slots in their order; of none, the current one.
+pub fn last_of(slots: &[Slot]) -> Slot
+    ensures { result ≡ last_slot Current slots.now }
+{
+    slots.last().copied().unwrap_or(Slot::Current)
 }
 
 /// The slot that a further secret of the command's comes into, where one is left.

@@ -1,11 +1,15 @@
 ghost use Rattle.std.specs.Prelude.{◌≡◌, [], length};
 ghost use Rattle.vold_book.specs.Tasks.{blobs_in, held_in, lists_with, begins_anew, fault_of, task_heard};
 ghost use Rattle.vold_book.specs.Steps.{task_now};
-ghost use Rattle.vold_book.specs.Tasks.{HearsAnswer, HearsMade, TaskAfter};
+ghost use Rattle.vold_book.specs.Tasks.{HearsAnswer, HearsMade, TaskAfter, is_untold};
+ghost use Rattle.vold_book.specs.Owed.{CanTry, after_try, with_more};
+ghost use Rattle.bench.specs.Bench.{was_done};
 
+use crate::owed::Owed;
 use crate::recovery::Recovery;
 use bench::Made;
 use journal_model::{Device, Reply};
+use std::alloc::Global;
 use task_turns::{Answer, Call};
 use tree_model::Blob;
 use user_tasks::UserTask;
@@ -30,11 +34,12 @@ pub enum Task {
     Fault(Device, Held),
 }
 
-/// A command that began: its number, and what it does next.
+/// A command that began: its number, what it does next, and what it listed.
 #[derive(Drop)]
 pub struct Running {
     pub number: u64,
     pub task: Task,
+    pub owed: Owed,
 }
 
 impl Held {
@@ -58,22 +63,49 @@ impl Held {
 
 impl Running {
     /// What stands for a command while its task is taken out.
-    pub fn none() -> Running {
+    pub fn none(alloc: Global) -> Running {
         Running {
             number: 0,
             task: Task::Refusal(Reply::Ready),
+            owed: Owed::nothing(alloc),
+        }
+    }
+
+    /// The command after a call that it made and that listed `more`; `worked` is the user's task with its jobs done,
+    /// where it asked for any.
+    pub fn after(
+        self,
+        call: &Call,
+        worked: Option<UserTask>,
+        made: Made,
+        more: Option<Owed>,
+    ) -> Running
+        requires tries { CanTry call.now }
+        requires hears { HearsMade call.now (task_now worked self.task) made }
+        ensures number { result.number ≡ self.number }
+        ensures task { TaskAfter call.now made (task_now worked self.task) result.task }
+        ensures owed { result.owed ≡ after_try call.now (with_more (was_done made) more self.owed) }
+    {
+        let Running { number, task, owed } = self;
+        let owed = owed.after(call, made.was_done(), more);
+        Running {
+            number,
+            task: task.worked(worked).after(call, made),
+            owed,
         }
     }
 }
 
 impl Task {
-    /// The task after a call that it made: with what it hears, or, where the device failed, that this is to be told.
-    pub fn after(self, call: &Call, made: Made) -> Task
-        requires { HearsMade self made }
+    /// The task after a call that it made: with what it hears, or, where the device failed, that this is to be told. A
+    /// delete that failed and isn't told is as one that was done.
+    fn after(self, call: &Call, made: Made) -> Task
+        requires { HearsMade call.now self made }
         ensures { TaskAfter call.now made self result }
     {
         match made {
             Made::Heard(answer) => self.heard(call, answer),
+            Made::Failed(_) if is_untold(call) => self.heard(call, Answer::Done),
             Made::Failed(device) => Task::Fault(device, self.held()),
         }
     }
@@ -94,7 +126,7 @@ impl Task {
     }
 
     /// The task, or the user's with its jobs done, where it asked for any.
-    pub fn worked(self, done: Option<UserTask>) -> Task
+    fn worked(self, done: Option<UserTask>) -> Task
         ensures { result ≡ task_now done self }
     {
         match done {
@@ -144,4 +176,11 @@ pub fn fault_of(device: Device) -> Reply
         Device::Store => Reply::StoreFault,
         Device::Ring => Reply::RingFault,
     }
+}
+
+/// Whether the call is a delete of which nobody is told where it fails.
+pub fn is_untold(call: &Call) -> bool
+    ensures { result ≡ is_untold call.now }
+{
+    matches!(call, Call::Delete { tells: false, .. })
 }

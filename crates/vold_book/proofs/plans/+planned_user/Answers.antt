@@ -30,21 +30,22 @@ returns-in_ok-task-in-Work t c =
     let last = sym c.unwrap_or.ensures in record {
       jobs = c.in-Work.job ∷ inner.jobs;
       works = (
-        subst (UserTurns c.args.task.now c.args.site) c.in-Work.is c.in_ok-next.ensures.turn,
-        subst (λ now. Works (tasks.after c.args.task.now (Output (output_of c.in-Work.job.input))) c.args.site now
+        subst (UserTurns c.args.task.now c.args.looks.now) c.in-Work.is c.in_ok-next.ensures.turn,
+        subst (λ now. Works (tasks.after c.args.task.now (Output (output_of c.in-Work.job.input))) c.args.looks.now now
             inner.jobs) last
-            (subst (λ task. Works task c.args.site
+            (subst (λ task. Works task c.args.looks.now
             (unwrap_or c.in_ok-task-in-Work.field-0.task c.heard.new.self) inner.jobs) then inner.works),
       );
-      turns = subst (λ now. UserTurns now c.args.site (next_of c.in_ok-task-in-Work.field-0.plan)) last inner.turns;
+      turns = subst (λ now. UserTurns now c.args.looks.now (next_of c.in_ok-task-in-Work.field-0.plan))
+          last inner.turns;
     }
 
 pub returns-in_default : goal.returns-in_default
 returns-in_default t c = record {
   jobs = [];
   works = ap (λ found. unwrap_or found c.args.task.now) c.with_no_job.ensures.task;
-  turns = subst (λ now. UserTurns now c.args.site (next_of c.with_no_job.result.plan))
+  turns = subst (λ now. UserTurns now c.args.looks.now (next_of c.with_no_job.result.plan))
       (sym (ap (λ found. unwrap_or found c.args.task.now) c.with_no_job.ensures.task))
-      (subst (UserTurns c.args.task.now c.args.site) (sym c.with_no_job.ensures.plan)
+      (subst (UserTurns c.args.task.now c.args.looks.now) (sym c.with_no_job.ensures.plan)
       c.in_ok-next.ensures.turn);
 }

@@ -1,25 +1,23 @@
-use Rattle.std.proofs.Common.{◌≡◌, ◌∙◌, ◌++◌, List, [], ◌∷◌, length, length-append, take, sym, ap, arith}
-use Rattle.std.proofs.lemmas.List.{take_all, take_more, append-nil}
-use Rattle.std.proofs.lemmas.List.Concat.{flat_map-append}
+use Rattle.std.proofs.Common.{◌≡◌, ◌∙◌, List, [], ◌∷◌, length, length-append, take, sym, ap, arith}
+use Rattle.std.proofs.lemmas.List.{take_all, append-nil}
 use Rattle.std.specs.Prelude.{option_to_list, max}
 use Rattle.std.specs.List.{flat_map}
 use Rattle.tree_model.specs.declared.places.Slot.{Slot}
 use Rattle.journal_model.specs.Users.{after_slot, next_number}
 use Rattle.journal_model.proofs.Slots.{next_number-append}
-use Rattle.vold_book.specs.Slots.{slot_of}
+use Rattle.bench.specs.Slots.{slot_of}
+use Rattle.vold_book.proofs.PlacedSlots.{slots-more}
 use Rattle.vold_book.proofs.slots.numbering.Goals.{in-Some, in_default}
 use Rattle.vold_book.proofs.slots.numbering.Goals as goal
 
 pub loop-place-preserved : goal.loop-place-preserved
 loop-place-preserved c =
     let items = c.places-place-items.result.now in
-    let f = slot_of c.args.user in
     let i = c.loop-place.place-index in
-    let done = flat_map f (take i items) in
+    let done = flat_map (slot_of c.args.user) (take i items) in
     let was = c.loop-place.invariant in
     let more = λ (now : List Slot) (one : option_to_list c.slot_of.result ≡ now).
-    ap (flat_map f) (take_more items i _ (omega arith)) ∙ flat_map-append f (take i items) _
-    ∙ ap (λ slots. done ++ slots) (append-nil _ ∙ sym c.slot_of.ensures ∙ one) in
+    sym (slots-more c.args.user items i _ now (omega arith) (sym one ∙ c.slot_of.ensures)) in
     elim c.match-slot_of.branch [
       | in-Some w ↦
           let now = more (w.in-Some.slot ∷ []) (ap option_to_list w.in-Some.is) in record {

@@ -2,7 +2,7 @@ use Rattle.std.proofs.Common.{◌≡◌, ◌≤◌, length, take}
 use Rattle.std.specs.List.{flat_map}
 use Rattle.std.specs.FinMap as map
 use Rattle.journal_model.specs.Users.{next_number}
-use Rattle.vold_book.specs.Slots.{slot_of}
+use Rattle.bench.specs.Slots.{slot_of}
 use Rattle.vold_book.proofs.slots.numbering.Given as goal
 
 abbrev pub invariant-loop-place : goal.invariant-loop-place

@@ -28,6 +28,7 @@ invariant_of-result g c =
       };
       seed = c.args.seed;
       boot_seed = c.new.result.seed;
+      marks = c.new.result.table.marks;
       ledger = c.new-2.result.now;
       docket = docket_of actor_cmp c.new-3.result;
       tracker = c.new-4.result.now;
@@ -51,6 +52,7 @@ invariant_of-result g c =
       };
       boot_seed = c.new.ensures.seed ∙ c.boot_seed-boot_seed.ensures
           ∙ ap (λ s. boot_seed_of s 0) c.as_slice.ensures;
+      marks = λ i. (c.new.ensures.table i).marks;
       ledger = c.new-2.ensures;
       docket = c.new-3.ensures;
       tracker = subst (λ level. c.new-4.result.now ≡ record new_tracker { level = level }) c.requires.level

@@ -1,13 +1,16 @@
-use Rattle.std.proofs.Common.{ap, sym, subst, ◌∙◌, inr}
+-- The reply that was planned is given to what the actor runs.
+use Rattle.std.proofs.Common.{ap, sym, subst, ◌∙◌, ◌∷◌, [], ◌++◌, inr}
 use Rattle.std.proofs.lemmas.Option.{same_Some}
+use Rattle.journal_model.specs.declared.entries.Entry.TheVariants.{Replied}
 use Rattle.journal_model.specs.Actor.{actor_cmp}
 use Rattle.docket.specs.Docket.{docket_of}
 use Rattle.task_turns.specs.declared.next.Next.TheVariants.{Reply as ReplyNext}
 use Rattle.bench.specs.Bench.{BenchState, Senses, listed}
+use Rattle.vold_book.specs.Parts.{LedgerState}
 use Rattle.vold_book.specs.State.{BookState, book_of, senses, seen}
 use Rattle.vold_book.specs.Steps.{RepliesNext, RepliesTo, GoesOn}
 use Rattle.vold_book.specs.Tasks.{Plans}
-use Rattle.vold_book.proofs.Books.{replied-book, replies-whole, number-given}
+use Rattle.vold_book.proofs.Books.{replies-whole, number-given}
 use Rattle.vold_book.proofs.book.Book.reply.Given.{Over}
 use Rattle.vold_book.proofs.book.Book.reply.Goals as goal
 
@@ -28,6 +31,7 @@ before g c = book_of (record {
   opened = c.self.inside.opened;
   seed = c.self.inside.seed;
   boot_seed = c.self.inside.bench.seed;
+  marks = c.self.inside.bench.table.marks;
   ledger = c.self.inside.ledger.now;
   docket = c.self.inside.docket;
   tracker = c.self.inside.tracker.now;
@@ -59,12 +63,21 @@ plans g c =
 replied : (g : Over) (c : goal.After-enter g)
     → RepliesTo (before g c) (after g c) c.args.actor c.in-Some.it.now c.args.reply
 replied g c =
-    replied-book (before g c) c.args.actor c.in-Some.it.now c.args.reply c.command.result.now (bench g c)
-    c.reserve.new.self.now c.enter.new.self.now (docket_of actor_cmp c.end.new.self) c.reply.new.self.now
-    c.command.ensures
-    (λ i. record (before g c).bench {
-      list = (c.in_ok-list_held.ensures.listed ∙ ap (listed c.self.inside.bench.list) c.failed_with.ensures) i;
-    }) c.in_ok-reserve.ensures.same c.enter.ensures c.end.ensures c.reply.ensures
+    let number = c.in-Some.it.now.number in record {
+      command = c.command.result.now;
+      given = c.command.ensures;
+      state = λ i. record (before g c) {
+        bench = record (before g c).bench {
+          list = (c.in_ok-list_held.ensures.listed
+              ∙ ap (listed c.self.inside.bench.list) c.failed_with.ensures) i;
+        };
+        ledger = (c.enter.ensures ∙ ap {A = LedgerState}
+            (λ l. record l { entries = l.entries ++ Replied number c.args.reply ∷ [] })
+            c.in_ok-reserve.ensures.same) i;
+        docket = c.end.ensures i;
+        tracker = c.reply.ensures i;
+      };
+    }
 
 pub invariant_of-self-2 : goal.invariant_of-self-2
 invariant_of-self-2 g c =
