@@ -10,6 +10,8 @@ use Rattle.bench.specs.Bench.{BenchState, Senses}
 use Rattle.journal_model.specs.declared.commands.Actor.{Actor}
 use Rattle.journal_model.specs.declared.commands.Actor.TheVariants.{Boot, Cp, User}
 use Rattle.journal_model.specs.declared.entries.Entry.{Entry}
+use Rattle.journal_model.specs.declared.entries.Entry.TheVariants.{Began, Changed, Synced, Installed, Evicted}
+use Rattle.journal_model.specs.declared.entries.Entry.TheVariants.{Swept, Stopped, Restarted, Replied}
 use Rattle.journal_model.specs.Command.{actor_of}
 use Rattle.journal_model.specs.Actor.{actor_cmp}
 use Rattle.journal_model.specs.declared.phase.Phase.{Phase}
@@ -25,6 +27,7 @@ use Rattle.vold_book.proofs.Begun.{none_of}
 use Rattle.docket.specs.Accounts.{AllWait}
 use Rattle.docket.proofs.Accounts.{contains-cons}
 use Rattle.vold_run.specs.Rounds.{NothingLeft}
+use Rattle.vold_book.proofs.SlotsToTry.{some-of}
 use Rattle.vold_run.specs.Lines.{IsInOrder, IsBetweenLines}
 use Rattle.vold_run.specs.Fits.{history_of, Waits, Runs, HasWork, IsAtWork, NoWork, ComesBy, IsNextAtWork, NoneAtWork}
 use Rattle.vold_run.specs.Fits.{BeginsNext, IsNoted, TurnFits}
@@ -32,10 +35,6 @@ use Rattle.vold_run.specs.Fits.{BeginsNext, IsNoted, TurnFits}
 there : {A : Type 0} (found : Option A) (P : A → Type 0) → IsSomeAnd found P → (a : A) × (found ≡ Some a) × P a
 there None P h = absurd h
 there (Some a) P h = (a, refl, h)
-
-some : {A : Type 0} (found : Option A) → IsSome found → (a : A) × (found ≡ Some a)
-some None h = cc
-some (Some a) h = (a, refl)
 
 is_there : {A : Type 0} (found : Option A) (P : A → Type 0) → IsSomeAnd found P → IsSome found
 is_there None P h = absurd h
@@ -111,9 +110,9 @@ module _ {D E F : Type 0} (senses : Senses D E F) (book : BookState (BenchState 
   -- an actor that is busy has something to do
   busy-works : (actor : Actor) → IsBusy book.docket actor → HasWork (history_of book) actor
   busy-works actor (inl runs) =
-      let it = some (map.get book.docket.running actor) runs in (it.0.number, inl (run-runs actor it.0 it.1))
+      let it = some-of (map.get book.docket.running actor) runs in (it.0.number, inl (run-runs actor it.0 it.1))
   busy-works actor (inr waits) =
-      let queue = some (map.get book.docket.waiting actor) waits in queue-works actor queue.0 queue.1
+      let queue = some-of (map.get book.docket.waiting actor) waits in queue-works actor queue.0 queue.1
 
   -- and one that has something to do is busy
   works-busy : (actor : Actor) → HasWork (history_of book) actor → IsBusy book.docket actor
@@ -187,16 +186,21 @@ module _ {D E F : Type 0} (senses : Senses D E F) (book : BookState (BenchState 
           ]
 
 -- the entry of a call is one that a call may add
-entry-noted : (number : ℕ) (entry : Option Entry) → IsNotedEntry number entry → (entries : List Entry)
+entry-noted : (number : ℕ) (entry : Option Entry) → IfSome entry (IsNotedEntry number) → (entries : List Entry)
     → (more : List Entry) × IsNoted number more × (with_entry entries entry ≡ entries ++ more)
 entry-noted number None noted entries = ([], inl refl, sym (append-nil entries))
-entry-noted number (Some entry) (inl is) entries = (entry ∷ [], inr (inl (ap (λ e. e ∷ []) is)), refl)
-entry-noted number (Some entry) (inr (inl (change, is))) entries =
-    (entry ∷ [], inr (inr (inl (change, ap (λ e. e ∷ []) is))), refl)
-entry-noted number (Some entry) (inr (inr (user, class, inl is))) entries =
-    (entry ∷ [], inr (inr (inr (user, class, inl (ap (λ e. e ∷ []) is)))), refl)
-entry-noted number (Some entry) (inr (inr (user, class, inr is))) entries =
-    (entry ∷ [], inr (inr (inr (user, class, inr (ap (λ e. e ∷ []) is)))), refl)
+entry-noted number (Some Synced) noted entries = (Synced ∷ [], inr (inl refl), refl)
+entry-noted number (Some (Changed other change)) noted entries =
+    (Changed other change ∷ [], inr (inr (inl (change, ap (λ n. Changed n change ∷ []) noted))), refl)
+entry-noted number (Some (Installed user class)) noted entries =
+    (Installed user class ∷ [], inr (inr (inr (inl (user, class, inl refl)))), refl)
+entry-noted number (Some (Evicted user class)) noted entries =
+    (Evicted user class ∷ [], inr (inr (inr (inl (user, class, inr refl)))), refl)
+entry-noted number (Some (Swept blob)) noted entries = (Swept blob ∷ [], inr (inr (inr (inr (blob, refl)))), refl)
+entry-noted number (Some (Began other actor command)) noted entries = absurd noted
+entry-noted number (Some (Stopped kept)) noted entries = absurd noted
+entry-noted number (Some (Restarted boot level)) noted entries = absurd noted
+entry-noted number (Some (Replied other reply)) noted entries = absurd noted
 
 -- a turn that went fits
 pub turn-fits : {D E F : Type 0} (senses : Senses D E F) (book after : BookState (BenchState D E F)) (actor : Actor)

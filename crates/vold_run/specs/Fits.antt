@@ -4,6 +4,7 @@ use Rattle.std.specs.Prelude.{◌≡◌, ℕ, zero, suc, ◌+◌, ◌≤◌, ◌
 use Rattle.std.specs.Prelude.{Option, Some, None, IsSomeAnd, Contains, slice_get}
 use Rattle.std.specs.declared.cmp.Ordering.TheVariants.{Less, Equal}
 use Rattle.std.specs.FinMap as map
+use Rattle.tree_model.specs.declared.blobs.Blob.{Blob}
 use Rattle.tree_model.specs.declared.ops.Cut.{Cut}
 use Rattle.tree_model.specs.declared.places.Class.{Class}
 use Rattle.journal_model.specs.declared.commands.Actor.{Actor}
@@ -14,7 +15,7 @@ use Rattle.journal_model.specs.declared.commands.Reply.{Reply}
 use Rattle.journal_model.specs.declared.entries.Change.{Change}
 use Rattle.journal_model.specs.declared.entries.Entry.{Entry}
 use Rattle.journal_model.specs.declared.entries.Entry.TheVariants.{Began, Changed, Synced, Installed, Evicted}
-use Rattle.journal_model.specs.declared.entries.Entry.TheVariants.{Stopped, Restarted, Replied}
+use Rattle.journal_model.specs.declared.entries.Entry.TheVariants.{Swept, Stopped, Restarted, Replied}
 use Rattle.journal_model.specs.Actor.{actor_cmp}
 use Rattle.journal_model.specs.Command.{actor_of}
 use Rattle.journal_model.specs.Machine.{TakesTurn, machine_after, numbers_begun}
@@ -91,12 +92,12 @@ pub record BeginsNext (before : History) (actor : Actor) (after : History) : Typ
   pub given : slice_get before.commands number ≡ Some command
   pub left : after ≡ record before { entries = before.entries ++ Began number actor command ∷ [] }
 
--- what a call adds to the journal: nothing, that it was synced, a change by the running command, or that a key was
--- installed or evicted
+-- what a call adds to the journal: nothing, that it was synced, a change by the running command, that a key was
+-- installed or evicted, or that a blob was deleted from the keystore
 abbrev pub IsNoted : ℕ → List Entry → Type 0
 IsNoted number more = (more ≡ []) ⊎ ((more ≡ Synced ∷ []) ⊎ (((change : Change) × (more ≡ Changed number change ∷ []))
-    ⊎ ((user : ℕ) × (class : Class)
-    × ((more ≡ Installed user class ∷ []) ⊎ (more ≡ Evicted user class ∷ [])))))
+    ⊎ (((user : ℕ) × (class : Class) × ((more ≡ Installed user class ∷ []) ⊎ (more ≡ Evicted user class ∷ [])))
+    ⊎ ((blob : Blob) × (more ≡ Swept blob ∷ [])))))
 
 -- the command that the actor runs makes one call of a device
 pub record CallsOnce (before : History) (actor : Actor) (after : History) : Type 0 where

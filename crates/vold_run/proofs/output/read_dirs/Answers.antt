@@ -1,4 +1,4 @@
-use Rattle.std.proofs.Common.{rules, ◌≡◌, suc, get_or, add-one, refl, sym, ap, ◌∙◌, subst}
+use Rattle.std.proofs.Common.{rules, ◌≡◌, suc, get_or, add-one, refl, sym, ap, ◌∙◌, subst, arith}
 use Rattle.std.specs.Prelude.{IsSome, Ok, Err}
 use Rattle.std.specs.FinMap as map
 use Rattle.tree_model.specs.declared.device.DevFault.TheVariants.{Failed}
@@ -65,4 +65,15 @@ returns-in_err-dir-clause-failed g c = λ failed.
       reached = g.T.TreeDisk.counts c.loop-place.book.bench.tree;
       looks = c.loop-place.invariant.looks;
       failed = failed_look _ _ c.read_place.result is c.read_place.ensures.counted;
+    }
+
+pub returns-in_err-places-clause-failed : goal.returns-in_err-places-clause-failed
+returns-in_err-places-clause-failed g c = λ failed.
+    let is : c.places.result ≡ Err Failed = search rules in
+    record {
+      answered = 0;
+      wanted = omega arith;
+      reached = g.T.TreeDisk.counts c.args.book.now.bench.tree;
+      looks = refl;
+      failed = failed_look _ _ c.places.result is c.places.ensures.counted;
     }
